@@ -1,0 +1,42 @@
+// Refusals as text: the number, the place and a sentence.
+ghost use mathlib.Core.Path.{_≡_};
+ghost use Rattle.std.specs.declared.option.Option.the-variants.{Some};
+ghost use Rattle.fault.specs.Words.{sentence, flaw-line, fault-line};
+use crate::fault::Fault;
+use crate::flaw::Flaw;
+use std::fmt;
+
+fn words(flaw: &Flaw) -> &'static str
+    ensures { λ r. ⌜ now r ≡ sentence (now (flaw .entry)) ⌝ }
+{
+    match flaw {
+        Flaw::TooLong => "the template has more than 3584 bytes",
+        Flaw::StrayAt { .. } => "after @ comes one of @ n r t {",
+        Flaw::BadName { .. } => "a hole's name is 1 to 16 of a-z 0-9 _, a letter first, then }",
+        Flaw::TooManyHoles { .. } => "the template has more than 64 holes",
+        Flaw::LiteralRefused { .. } => "the host does not take this byte here",
+        Flaw::HoleRefused { .. } => "the host takes no hole here",
+        Flaw::EndRefused { .. } => "the host does not let the text end here",
+    }
+}
+
+pub impl fmt::Display for Flaw as FlawDisplay {
+    ghost shown = { λ flaw. Some (flaw-line flaw) };
+
+    fn fmt<W: fmt::Write>(&self, f: &mut fmt::Formatter<W>) -> fmt::Result {
+        let number = self.number();
+        let place = self.place();
+        let words = words(self);
+        write!(f, "{number} place {place}: {words}")
+    }
+}
+
+pub impl fmt::Display for Fault as FaultDisplay {
+    ghost shown = { λ fault. Some (fault-line fault) };
+
+    fn fmt<W: fmt::Write>(&self, f: &mut fmt::Formatter<W>) -> fmt::Result {
+        match self {
+            Fault::Template(flaw) => flaw.fmt(f),
+        }
+    }
+}
