@@ -41,6 +41,10 @@ abbrev pub refusalOf : Fault → Refusal
 refusalOf (Template f) = of-template (flawOf f)
 
 -- An answer, with what a refusal says in place of the refusal.
+abbrev pub told-flaw : {A : Type 0} → Result A Flaw → Result A Report
+told-flaw (Ok x) = Ok x
+told-flaw (Err f) = Err (flawOf f)
+
 abbrev pub told : {A : Type 0} → Result A Fault → Result A Refusal
 told (Ok x) = Ok x
 told (Err f) = Err (refusalOf f)
