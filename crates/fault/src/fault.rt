@@ -44,7 +44,7 @@ impl Fault {
 pub impl From<Flaw> for Fault as FaultFromFlaw {
     ghost converts = { λ flaw fault. fault ≡ Template flaw };
 
-    fn from(flaw: Flaw) -> Fault {
-        Fault::Template(flaw)
+    fn from(found: Flaw) -> Fault {
+        Fault::Template(found)
     }
 }
