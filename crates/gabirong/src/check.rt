@@ -40,10 +40,13 @@ pub fn check_template<H: Host>(
     let visits = outlined(visits(rt.alloc(), template, host))?;
     let holes = holes_of(rt.alloc(), visits.as_slice())?;
     let tokens = outlined(plan(rt.alloc(), template, host))?;
+    println!(rt, "items, each with its place and the context that reads it:")?;
     tell_items(rt, template, visits.as_slice())?;
+    println!(rt, "holes, each with its number, name, place and body:")?;
     if let Ok(survey) = survey(template, host) {
         tell_holes(rt, holes.as_slice(), &survey.bodies)?;
     }
+    println!(rt, "plan, the tokens that the text will read as:")?;
     tell_plan(rt, tokens.as_slice(), holes.as_slice(), kinds)?;
     let s = if count == 1 { "" } else { "s" };
     println!(rt, "checked: {count} hole{s}")?;
@@ -84,11 +87,19 @@ fn tell_items(rt: &LibcRuntime, template: &[u8], visits: &[Visit<'_>]) -> Result
             }
             Item::Literal(byte) => {
                 literals.tell(rt)?;
-                println!(rt, "place {place} context {context} escape \"{}\"", Shown(&[byte]))?;
+                println!(
+                    rt,
+                    "place {place} context {context} escape \"{}\"",
+                    Shown(&[byte])
+                )?;
             }
             Item::Hole(hole) => {
                 literals.tell(rt)?;
-                println!(rt, "place {place} context {context} hole {}", Shown(hole.name))?;
+                println!(
+                    rt,
+                    "place {place} context {context} hole {}",
+                    Shown(hole.name)
+                )?;
             }
         }
     }
@@ -127,7 +138,11 @@ impl Literals {
         if !self.bytes.is_empty() {
             let place = self.place;
             let context = self.context;
-            println!(rt, "place {place} context {context} literal \"{}\"", Shown(self.bytes.as_slice()))?;
+            println!(
+                rt,
+                "place {place} context {context} literal \"{}\"",
+                Shown(self.bytes.as_slice())
+            )?;
             self.bytes.clear();
         }
         Ok(())
@@ -137,7 +152,11 @@ impl Literals {
 fn tell_holes(rt: &LibcRuntime, holes: &[Hole<'_>], bodies: &[u8]) -> io::Result<()> {
     for (number, (hole, body)) in holes.iter().zip(bodies.iter()).enumerate() {
         let place = hole.place;
-        println!(rt, "hole {number} {} place {place} body {body}", Shown(hole.name))?;
+        println!(
+            rt,
+            "hole {number} {} place {place} body {body}",
+            Shown(hole.name)
+        )?;
     }
     Ok(())
 }
@@ -150,7 +169,10 @@ fn tell_plan(
 ) -> io::Result<()> {
     for (number, token) in tokens.iter().enumerate() {
         let kind = token.kind;
-        let name = kinds.get(usize::from(kind).saturating_sub(1)).copied().unwrap_or("");
+        let name = kinds
+            .get(usize::from(kind).saturating_sub(1))
+            .copied()
+            .unwrap_or("");
         let value = Value {
             symbols: token.value.as_slice(),
             holes,
@@ -161,6 +183,7 @@ fn tell_plan(
 }
 
 // What a token holds, in the notation of templates: its bytes, and the holes whose values it will have.
+#[derive(Clone, Copy)]
 struct Value<'a> {
     symbols: &'a [Symbol],
     holes: &'a [Hole<'a>],

@@ -22,9 +22,12 @@ pub enum Outcome {
 fn run(rt: &LibcRuntime) -> Result<Outcome, AnyError> {
     let mut words = env::args(rt)?;
     let _ = words.next();
-    let (Some(command), Some(host), Some(file), None) =
-        (words.next(), words.next(), words.next(), words.next())
-    else {
+    let (Some(command), Some(host), Some(file), None) = (
+        words.next(),
+        words.next(),
+        words.next(),
+        words.next(),
+    ) else {
         return usage(rt);
     };
     match (command.as_str(), host.as_str()) {

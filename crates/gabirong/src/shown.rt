@@ -2,6 +2,7 @@
 use std::fmt;
 
 // Printable ASCII as itself; every other byte, the backslash and the double quote as \xHH.
+#[derive(Clone, Copy)]
 pub struct Shown<'a>(pub &'a [u8]);
 
 pub fn is_plain(byte: u8) -> bool {
