@@ -11,7 +11,7 @@ use Rattle.std.specs.Vec.{Every}
 use Rattle.std.proofs.shelf.Tests.{eq-eqb, and-parts, false≢true}
 use Rattle.template.specs.Notation.{goes-on, name-from, Escape, at, line, return, tab, sign, Piece, itself, escape, named, written, proper}
 use Rattle.template.specs.Law.{Written, Read-one-way}
-use Rattle.template.proofs.Reading.{no-brace}
+use Rattle.template.proofs.Pieces.{no-brace}
 
 heads : {A : Type 0} {x y : A} {xs ys : List A} → x ∷ xs ≡ y ∷ ys → x ≡ y
 heads e = cc
