@@ -40,7 +40,10 @@ pub fn check_template<H: Host>(
     let visits = outlined(visits(rt.alloc(), template, host))?;
     let holes = holes_of(rt.alloc(), visits.as_slice())?;
     let tokens = outlined(plan(rt.alloc(), template, host))?;
-    println!(rt, "items, each with its place and the context that reads it:")?;
+    println!(
+        rt,
+        "items, each with its place and the context that reads it:"
+    )?;
     tell_items(rt, template, visits.as_slice())?;
     println!(rt, "holes, each with its number, name, place and body:")?;
     if let Ok(survey) = survey(template, host) {
