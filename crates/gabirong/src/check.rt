@@ -164,10 +164,10 @@ fn tell_holes(rt: &LibcRuntime, holes: &[Hole<'_>], bodies: &[u8]) -> io::Result
     Ok(())
 }
 
-fn tell_plan(
+fn tell_plan<'x>(
     rt: &LibcRuntime,
-    tokens: &[Token],
-    holes: &[Hole<'_>],
+    tokens: &'x [Token],
+    holes: &'x [Hole<'x>],
     kinds: &[&str],
 ) -> io::Result<()> {
     for (number, token) in tokens.iter().enumerate() {

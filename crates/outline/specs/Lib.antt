@@ -1,0 +1,4 @@
+pub mod Telling
+pub mod Visits
+pub mod Tokens
+pub mod Runs
