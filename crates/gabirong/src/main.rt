@@ -42,8 +42,12 @@ fn usage(rt: &LibcRuntime) -> Result<Outcome, AnyError> {
 }
 
 fn main(rt: LibcRuntime) -> Result<(), AnyError> {
-    match rt.report(run(&rt))? {
-        Outcome::Done => Ok(()),
-        Outcome::Refused => Err("refused".into()),
+    match run(&rt) {
+        Ok(Outcome::Done) => Ok(()),
+        Ok(Outcome::Refused) => Err("refused".into()),
+        Err(error) => {
+            eprintln!(rt, "gabirong: {error}")?;
+            Err(error)
+        }
     }
 }
