@@ -7,7 +7,7 @@ use Rattle.std.specs.declared.result.Result.the-variants.{Ok, Err}
 use Rattle.fault.specs.declared.flaw.Flaw.{Flaw}
 use Rattle.fault.specs.declared.flaw.Flaw.the-variants.{TooLong, StrayAt, BadName, TooManyHoles, LiteralRefused, HoleRefused, EndRefused}
 use Rattle.fault.specs.declared.fault.Fault.{Fault}
-use Rattle.fault.specs.declared.fault.Fault.the-variants.{Template}
+use Rattle.fault.specs.declared.fault.Fault.the-variants.{Template, OutputTooShort, TextTooLong, TextRefused}
 
 -- What is wrong with a template: the refusal's number and its place.
 pub record Report : Type 0 where
@@ -33,12 +33,18 @@ flawOf (LiteralRefused p) = report 6 p
 flawOf (HoleRefused p) = report 7 p
 flawOf (EndRefused p) = report 8 p
 
--- the refusal of a template: it names no hole and carries no other
+-- a refusal that names no hole and carries no other
+abbrev pub plain : ℕ → ℕ → Refusal
+plain n p = record { number = n; hole = None; place = p; carried = None }
+
 abbrev pub of-template : Report → Refusal
-of-template f = record { number = f .number; hole = None; place = f .place; carried = None }
+of-template f = plain (f .number) (f .place)
 
 abbrev pub refusalOf : Fault → Refusal
 refusalOf (Template f) = of-template (flawOf f)
+refusalOf (OutputTooShort needed) = plain 17 needed
+refusalOf TextTooLong = plain 18 0
+refusalOf (TextRefused p) = plain 19 p
 
 -- An answer, with what a refusal says in place of the refusal.
 abbrev pub told-flaw : {A : Type 0} → Result A Flaw → Result A Report

@@ -6,20 +6,29 @@ use Rattle.std.specs.Written.{decimal}
 use Rattle.fault.specs.declared.flaw.Flaw.{Flaw}
 use Rattle.fault.specs.declared.flaw.Flaw.the-variants.{TooLong, StrayAt, BadName, TooManyHoles, LiteralRefused, HoleRefused, EndRefused}
 use Rattle.fault.specs.declared.fault.Fault.{Fault}
-use Rattle.fault.specs.declared.fault.Fault.the-variants.{Template}
-use Rattle.fault.specs.Refusal.{flawOf}
+use Rattle.fault.specs.declared.fault.Fault.the-variants.{Template, OutputTooShort, TextTooLong, TextRefused}
+use Rattle.fault.specs.Refusal.{Refusal, flawOf, refusalOf, of-template}
 
-abbrev pub sentence : Flaw → List ℕ
-sentence TooLong = codes "the template has more than 3584 bytes"
-sentence (StrayAt p) = codes "after @ comes one of @ n r t {"
-sentence (BadName p) = codes "a hole's name is 1 to 16 of a-z 0-9 _, a letter first, then }"
-sentence (TooManyHoles p) = codes "the template has more than 64 holes"
-sentence (LiteralRefused p) = codes "the host does not take this byte here"
-sentence (HoleRefused p) = codes "the host takes no hole here"
-sentence (EndRefused p) = codes "the host does not let the text end here"
+abbrev pub flaw-words : Flaw → List ℕ
+flaw-words TooLong = codes "the template has more than 3584 bytes"
+flaw-words (StrayAt p) = codes "after @ comes one of @ n r t {"
+flaw-words (BadName p) = codes "a hole's name is 1 to 16 of a-z 0-9 _, a letter first, then }"
+flaw-words (TooManyHoles p) = codes "the template has more than 64 holes"
+flaw-words (LiteralRefused p) = codes "the host does not take this byte here"
+flaw-words (HoleRefused p) = codes "the host takes no hole here"
+flaw-words (EndRefused p) = codes "the host does not let the text end here"
+
+abbrev pub fault-words : Fault → List ℕ
+fault-words (Template f) = flaw-words f
+fault-words (OutputTooShort needed) = codes "the output is too short; the place is the length needed"
+fault-words TextTooLong = codes "the text has more than 65534 bytes"
+fault-words (TextRefused p) = codes "the host does not take this byte, or the end, here"
+
+abbrev pub line : Refusal → List ℕ → List ℕ
+line r words = decimal (r .number) ++ (codes " place " ++ (decimal (r .place) ++ (codes ": " ++ words)))
 
 abbrev pub flaw-line : Flaw → List ℕ
-flaw-line f = decimal (flawOf f .number) ++ (codes " place " ++ (decimal (flawOf f .place) ++ (codes ": " ++ sentence f)))
+flaw-line f = line (of-template (flawOf f)) (flaw-words f)
 
 abbrev pub fault-line : Fault → List ℕ
-fault-line (Template f) = flaw-line f
+fault-line f = line (refusalOf f) (fault-words f)

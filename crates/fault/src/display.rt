@@ -1,13 +1,13 @@
 // Refusals as text: the number, the place and a sentence.
 ghost use mathlib.Core.Path.{_≡_};
 ghost use Rattle.std.specs.declared.option.Option.the-variants.{Some};
-ghost use Rattle.fault.specs.Words.{sentence, flaw-line, fault-line};
+ghost use Rattle.fault.specs.Words.{flaw-words, fault-words, flaw-line, fault-line};
 use crate::fault::Fault;
 use crate::flaw::Flaw;
 use std::fmt;
 
-fn words(flaw: &Flaw) -> &'static str
-    ensures { λ r. ⌜ now r ≡ sentence (now (flaw .entry)) ⌝ }
+fn flaw_words(flaw: &Flaw) -> &'static str
+    ensures { λ r. ⌜ now r ≡ flaw-words (now (flaw .entry)) ⌝ }
 {
     match flaw {
         Flaw::TooLong => "the template has more than 3584 bytes",
@@ -20,13 +20,24 @@ fn words(flaw: &Flaw) -> &'static str
     }
 }
 
+fn fault_words(fault: &Fault) -> &'static str
+    ensures { λ r. ⌜ now r ≡ fault-words (now (fault .entry)) ⌝ }
+{
+    match fault {
+        Fault::Template(flaw) => flaw_words(flaw),
+        Fault::OutputTooShort { .. } => "the output is too short; the place is the length needed",
+        Fault::TextTooLong => "the text has more than 65534 bytes",
+        Fault::TextRefused { .. } => "the host does not take this byte, or the end, here",
+    }
+}
+
 pub impl fmt::Display for Flaw as FlawDisplay {
     ghost shown = { λ flaw. Some (flaw-line flaw) };
 
     fn fmt<W: fmt::Write>(&self, f: &mut fmt::Formatter<W>) -> fmt::Result {
         let number = self.number();
         let place = self.place();
-        let words = words(self);
+        let words = flaw_words(self);
         write!(f, "{number} place {place}: {words}")
     }
 }
@@ -35,8 +46,9 @@ pub impl fmt::Display for Fault as FaultDisplay {
     ghost shown = { λ fault. Some (fault-line fault) };
 
     fn fmt<W: fmt::Write>(&self, f: &mut fmt::Formatter<W>) -> fmt::Result {
-        match self {
-            Fault::Template(flaw) => flaw.fmt(f),
-        }
+        let number = self.number();
+        let place = self.place();
+        let words = fault_words(self);
+        write!(f, "{number} place {place}: {words}")
     }
 }

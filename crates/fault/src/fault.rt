@@ -10,6 +10,12 @@ use crate::flaw::FlawPartialEq;
 pub enum Fault {
     // The template is refused by its host.
     Template(Flaw),
+    // The output is shorter than what is to be written, whose length this is.
+    OutputTooShort { needed: usize },
+    // The text has more than 65,534 bytes.
+    TextTooLong,
+    // The host refuses a byte of the text, or its end.
+    TextRefused { place: usize },
 }
 
 impl Fault {
@@ -19,6 +25,9 @@ impl Fault {
     {
         match self {
             Fault::Template(flaw) => flaw.number(),
+            Fault::OutputTooShort { .. } => 17,
+            Fault::TextTooLong => 18,
+            Fault::TextRefused { .. } => 19,
         }
     }
 
@@ -28,6 +37,9 @@ impl Fault {
     {
         match self {
             Fault::Template(_) => None,
+            Fault::OutputTooShort { .. } => None,
+            Fault::TextTooLong => None,
+            Fault::TextRefused { .. } => None,
         }
     }
 
@@ -37,6 +49,9 @@ impl Fault {
     {
         match self {
             Fault::Template(flaw) => flaw.place(),
+            Fault::OutputTooShort { needed } => *needed,
+            Fault::TextTooLong => 0,
+            Fault::TextRefused { place } => *place,
         }
     }
 }

@@ -1,0 +1,4 @@
+pub mod Listing
+pub mod Marks
+pub mod Passes
+pub mod Promise

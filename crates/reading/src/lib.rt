@@ -1,0 +1,81 @@
+// The reading of a text, listed as fields: the kind of each token as a tag, then its bytes.
+ghost use mathlib.Core.Path.{_≡_};
+ghost use Prim.Native.Nat.{_≤_};
+ghost use lib.ListN.{length};
+ghost use Rattle.fault.specs.Refusal.{told};
+ghost use Rattle.reading.specs.Listing.{listing, result, output};
+ghost use Rattle.reading.specs.Passes.{origin, measured, written, Fits};
+
+mod mark;
+pub mod promise;
+
+use fault::Fault;
+use host::Host;
+use mark::Mark;
+use mark::after;
+use mark::write;
+
+const MOST: usize = 65534;
+
+const ORIGIN: Mark = Mark { at: 0, held: 0 };
+
+// The length of the fields, or the place that the host refuses.
+fn measure<H: Host>(host: &H, text: &[u8]) -> Result<usize, Fault>
+    requires { ⌜ length (now text) ≤ 65534 ⌝ }
+    ensures { λ r. ⌜ r ≡ measured (meaning (now (host .entry))) (now (text .entry)) 0 origin 0 ⌝ }
+{
+    let mut context = 0;
+    let mut mark = ORIGIN;
+    for (place, byte) in text.iter().enumerate() {
+        match host.step(context, *byte) {
+            Ok((next, effect)) => {
+                mark = after(effect, mark);
+                context = next;
+            }
+            Err(_) => return Err(Fault::TextRefused { place }),
+        }
+    }
+    match host.end(context) {
+        Ok(effect) => Ok(after(effect, mark).at),
+        Err(_) => Err(Fault::TextRefused { place: text.len() }),
+    }
+}
+
+// Writes the fields of a text that is measured.
+fn write_all<H: Host>(host: &H, text: &[u8], out: &mut [u8])
+    requires short { ⌜ length (now text) ≤ 65534 ⌝ }
+    requires fits { ⌜ Fits (measured (meaning (now host)) (now text) 0 origin 0) (length (now out)) ⌝ }
+    ensures { λ _. ⌜ now (out .exit) ≡ written (meaning (now (host .entry))) (now (text .entry)) 0 origin (now (out .entry)) ⌝ }
+{
+    let mut context = 0;
+    let mut mark = ORIGIN;
+    for byte in text {
+        match host.step(context, *byte) {
+            Ok((next, effect)) => {
+                write(effect, mark, out);
+                mark = after(effect, mark);
+                context = next;
+            }
+            Err(_) => return,
+        }
+    }
+    if let Ok(effect) = host.end(context) {
+        write(effect, mark, out);
+    }
+}
+
+// Lists the reading of a text in the output, and answers the length of the listing.
+pub fn list<H: Host>(host: &H, text: &[u8], out: &mut [u8]) -> Result<usize, Fault>
+    ensures result { λ r. ⌜ told r ≡ result (listing (meaning (now (host .entry))) (now (text .entry)) (length (now (out .entry)))) ⌝ }
+    ensures output { λ _. ⌜ now (out .exit) ≡ output (listing (meaning (now (host .entry))) (now (text .entry)) (length (now (out .entry)))) (now (out .entry)) ⌝ }
+{
+    if text.len() > MOST {
+        return Err(Fault::TextTooLong);
+    }
+    let needed = measure(host, text)?;
+    if needed > out.len() {
+        return Err(Fault::OutputTooShort { needed });
+    }
+    write_all(host, text, out);
+    Ok(needed)
+}
