@@ -30,12 +30,8 @@ pub fn check_template<H: Host>(
     kinds: &[&str],
     path: &str,
 ) -> Result<Outcome, AnyError> {
-    let file = match read_whole(rt, path) {
-        Ok(file) => file,
-        Err(error) => {
-            eprintln!(rt, "cannot read {path}: {error}")?;
-            return Ok(Outcome::Refused);
-        }
+    let Some(file) = read_whole(rt, path)? else {
+        return Ok(Outcome::Refused);
     };
     let template = file.as_slice();
     println!(rt, "read {path}: {} bytes", template.len())?;
