@@ -2,9 +2,11 @@
 use crate::Outcome;
 use crate::input::read_whole;
 use crate::refusal::refuse;
-use crate::shown::Shown;
-use crate::shown::ShownDisplay;
-use crate::shown::show_byte;
+use crate::shown::Line;
+use crate::shown::LineDisplay;
+use crate::shown::Quoted;
+use crate::shown::QuotedDisplay;
+use crate::shown::show_quoted;
 use host::Host;
 use outline::Symbol;
 use outline::Token;
@@ -94,8 +96,8 @@ fn tell_items(rt: &LibcRuntime, template: &[u8], visits: &[Visit<'_>]) -> Result
                 literals.tell(rt)?;
                 println!(
                     rt,
-                    "place {place} context {context} escape \"{}\"",
-                    Shown(&[byte])
+                    "place {place} context {context} escape {}",
+                    Quoted(&[byte])
                 )?;
             }
             Item::Hole(hole) => {
@@ -103,7 +105,7 @@ fn tell_items(rt: &LibcRuntime, template: &[u8], visits: &[Visit<'_>]) -> Result
                 println!(
                     rt,
                     "place {place} context {context} hole {}",
-                    Shown(hole.name)
+                    Line(hole.name)
                 )?;
             }
         }
@@ -145,8 +147,8 @@ impl Literals {
             let context = self.context;
             println!(
                 rt,
-                "place {place} context {context} literal \"{}\"",
-                Shown(self.bytes.as_slice())
+                "place {place} context {context} literal {}",
+                Quoted(self.bytes.as_slice())
             )?;
             self.bytes.clear();
         }
@@ -160,7 +162,7 @@ fn tell_holes(rt: &LibcRuntime, holes: &[Hole<'_>], bodies: &[u8]) -> io::Result
         println!(
             rt,
             "hole {number} {} place {place} body {body}",
-            Shown(hole.name)
+            Line(hole.name)
         )?;
     }
     Ok(())
@@ -182,7 +184,7 @@ fn tell_plan<'x>(
             symbols: token.value.as_slice(),
             holes,
         };
-        println!(rt, "token {number} kind {kind} {name} \"{value}\"")?;
+        println!(rt, "token {number} kind {kind} {name} {value}")?;
     }
     Ok(())
 }
@@ -196,17 +198,18 @@ struct Value<'a> {
 
 impl fmt::Display for Value<'_> as ValueDisplay {
     fn fmt<W: fmt::Write>(&self, f: &mut fmt::Formatter<W>) -> fmt::Result {
+        write!(f, "\"")?;
         for symbol in self.symbols {
             match symbol {
                 Symbol::Byte(b'@') => write!(f, "@@")?,
-                Symbol::Byte(byte) => show_byte(*byte, f)?,
+                Symbol::Byte(byte) => show_quoted(*byte, f)?,
                 Symbol::Mark(number) => {
                     if let Some(hole) = self.holes.get(*number) {
-                        write!(f, "@{{{}}}", Shown(hole.name))?;
+                        write!(f, "@{{{}}}", Line(hole.name))?;
                     }
                 }
             }
         }
-        Ok(())
+        write!(f, "\"")
     }
 }

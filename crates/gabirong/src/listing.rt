@@ -2,8 +2,8 @@
 use crate::Outcome;
 use crate::input::read_whole;
 use crate::refusal::refuse;
-use crate::shown::Shown;
-use crate::shown::ShownDisplay;
+use crate::shown::Quoted;
+use crate::shown::QuotedDisplay;
 use fault::Fault;
 use host::Host;
 use reading::list;
@@ -72,8 +72,11 @@ fn tell_tokens(rt: &LibcRuntime, fields: &[u8], kinds: &[&str]) -> io::Result<us
     while let [kind, high, low, after @ ..] = rest {
         let len = usize::from(*high) * 256 + usize::from(*low);
         let (value, next) = after.split_at(len.min(after.len()));
-        let name = kinds.get(usize::from(*kind).saturating_sub(1)).copied().unwrap_or("");
-        println!(rt, "token {number} kind {kind} {name} \"{}\"", Shown(value))?;
+        let name = kinds
+            .get(usize::from(*kind).saturating_sub(1))
+            .copied()
+            .unwrap_or("");
+        println!(rt, "token {number} kind {kind} {name} {}", Quoted(value))?;
         number = number.saturating_add(1);
         rest = next;
     }

@@ -1,7 +1,7 @@
 // A refusal as the program tells it.
 use crate::Outcome;
-use crate::shown::Shown;
-use crate::shown::ShownDisplay;
+use crate::shown::Line;
+use crate::shown::LineDisplay;
 use crate::shown::width;
 use fault::Fault;
 use fault::FaultDisplay;
@@ -11,7 +11,7 @@ use std::error::AnyError;
 pub fn refuse(rt: &LibcRuntime, fault: Fault, text: &[u8]) -> Result<Outcome, AnyError> {
     eprintln!(rt, "refused {fault}")?;
     let (before, after) = line_at(text, fault.place());
-    eprintln!(rt, "{}{}", Shown(before), Shown(after))?;
+    eprintln!(rt, "{}{}", Line(before), Line(after))?;
     for byte in before {
         for _ in 0..width(*byte) {
             eprint!(rt, " ")?;
