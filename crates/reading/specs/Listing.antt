@@ -1,16 +1,17 @@
 -- The listing of a reading. Assumes nothing.
+use mathlib.Core.Path.{_≡_}
 use mathlib.Core.Bool.{cond}
 use mathlib.Core.List.{List, [], _∷_, _++_}
-use Prim.Native.Nat.{ℕ, suc, _/_, _%_}
+use Prim.Native.Nat.{ℕ, suc, _/_, _%_, _≤_}
 use lib.Dec.{ltb}
-use lib.ListN.{length, drop}
+use lib.ListN.{length, take, drop}
 use Rattle.std.specs.declared.option.Option.{Option}
 use Rattle.std.specs.declared.option.Option.the-variants.{Some, None}
 use Rattle.std.specs.declared.result.Result.{Result}
 use Rattle.std.specs.declared.result.Result.the-variants.{Ok, Err}
 use Rattle.fault.specs.Refusal.{Refusal, plain}
 use Rattle.host.specs.Meaning.{Meaning}
-use Rattle.host.specs.Run.{Symbol, byte, mark, Token, State, start, read-byte, reading}
+use Rattle.host.specs.Run.{Symbol, byte, mark, Token, State, start, read-byte, read-bytes, reading}
 
 -- The bytes of a token; a reading has no marks.
 abbrev pub bytes-of : List Symbol → List ℕ
@@ -53,3 +54,19 @@ result (Err f) = Err f
 abbrev pub output : Result (List ℕ) Refusal → List ℕ → List ℕ
 output (Ok fs) out = fs ++ drop (length fs) out
 output (Err f) out = out
+
+-- What stands next cannot be read: a byte that the host refuses, or the end.
+abbrev pub Stuck : Meaning → State → List ℕ → Type 0
+Stuck m s [] = m .end (s .context) ≡ None
+Stuck m s (b ∷ bs) = m .step (s .context) b ≡ None
+
+-- A text is read up to a place, from a state on, and what stands there cannot be read.
+pub record Refused-at (m : Meaning) (s : State) (bs : List ℕ) (p : ℕ) : Type 0 where
+  pub within : p ≤ length bs
+  pub reached : State
+  pub before : read-bytes m (take p bs) s ≡ Some reached
+  pub here : Stuck m reached (drop p bs)
+
+-- A text without a reading is refused at the place that is told.
+abbrev pub Refused-rightly : Meaning → List ℕ → Type 0
+Refused-rightly m bs = reading m bs ≡ None → Refused-at m start bs (read-before m bs start)

@@ -3,7 +3,7 @@ ghost use mathlib.Core.Path.{_≡_};
 ghost use Prim.Native.Nat.{_≤_};
 ghost use lib.ListN.{length};
 ghost use Rattle.fault.specs.Refusal.{told};
-ghost use Rattle.reading.specs.Listing.{listing, result, output};
+ghost use Rattle.reading.specs.Listing.{listing, result, output, Refused-rightly};
 ghost use Rattle.reading.specs.Passes.{origin, measured, written, Fits};
 
 mod mark;
@@ -68,6 +68,7 @@ fn write_all<H: Host>(host: &H, text: &[u8], out: &mut [u8])
 pub fn list<H: Host>(host: &H, text: &[u8], out: &mut [u8]) -> Result<usize, Fault>
     ensures result { λ r. ⌜ told r ≡ result (listing (meaning (now (host .entry))) (now (text .entry)) (length (now (out .entry)))) ⌝ }
     ensures output { λ _. ⌜ now (out .exit) ≡ output (listing (meaning (now (host .entry))) (now (text .entry)) (length (now (out .entry)))) (now (out .entry)) ⌝ }
+    ensures place { λ _. ⌜ Refused-rightly (meaning (now (host .entry))) (now (text .entry)) ⌝ }
 {
     if text.len() > MOST {
         return Err(Fault::TextTooLong);
