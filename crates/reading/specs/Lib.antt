@@ -1,4 +1,4 @@
 pub mod Listing
-pub mod Marks
+pub mod Cursors
 pub mod Passes
 pub mod Promise

@@ -6,18 +6,18 @@ ghost use Rattle.fault.specs.Refusal.{told};
 ghost use Rattle.reading.specs.Listing.{listing, result, output, Refused-rightly};
 ghost use Rattle.reading.specs.Passes.{origin, measured, written, Fits};
 
-mod mark;
+mod cursor;
 pub mod promise;
 
+use cursor::Cursor;
+use cursor::after;
+use cursor::write;
 use fault::Fault;
 use host::Host;
-use mark::Mark;
-use mark::after;
-use mark::write;
 
 const MOST: usize = 65534;
 
-const ORIGIN: Mark = Mark { at: 0, held: 0 };
+const ORIGIN: Cursor = Cursor { at: 0, held: 0 };
 
 // The length of the fields, or the place that the host refuses.
 fn measure<H: Host>(host: &H, text: &[u8]) -> Result<usize, Fault>
@@ -25,18 +25,18 @@ fn measure<H: Host>(host: &H, text: &[u8]) -> Result<usize, Fault>
     ensures { λ r. ⌜ r ≡ measured (meaning (now (host .entry))) (now (text .entry)) 0 origin 0 ⌝ }
 {
     let mut context = 0;
-    let mut mark = ORIGIN;
+    let mut cursor = ORIGIN;
     for (place, byte) in text.iter().enumerate() {
         match host.step(context, *byte) {
             Ok((next, effect)) => {
-                mark = after(effect, mark);
+                cursor = after(effect, cursor);
                 context = next;
             }
             Err(_) => return Err(Fault::TextRefused { place }),
         }
     }
     match host.end(context) {
-        Ok(effect) => Ok(after(effect, mark).at),
+        Ok(effect) => Ok(after(effect, cursor).at),
         Err(_) => Err(Fault::TextRefused { place: text.len() }),
     }
 }
@@ -48,19 +48,19 @@ fn write_all<H: Host>(host: &H, text: &[u8], out: &mut [u8])
     ensures { λ _. ⌜ now (out .exit) ≡ written (meaning (now (host .entry))) (now (text .entry)) 0 origin (now (out .entry)) ⌝ }
 {
     let mut context = 0;
-    let mut mark = ORIGIN;
+    let mut cursor = ORIGIN;
     for byte in text {
         match host.step(context, *byte) {
             Ok((next, effect)) => {
-                write(effect, mark, out);
-                mark = after(effect, mark);
+                write(effect, cursor, out);
+                cursor = after(effect, cursor);
                 context = next;
             }
             Err(_) => return,
         }
     }
     if let Ok(effect) = host.end(context) {
-        write(effect, mark, out);
+        write(effect, cursor, out);
     }
 }
 
