@@ -1,5 +1,8 @@
 pub mod Walks
 pub mod Places
+pub mod Laid
+pub mod Items
+pub mod Visited
 pub mod Sights
 pub mod States
 pub mod Bytes

@@ -16,9 +16,10 @@ use Rattle.template.specs.declared.item.Item.the-variants.{Literal, Hole}
 use Rattle.template.specs.Lexing.{Lexed, hole, lexed-from, then}
 use Rattle.template.specs.Judging.{crossing, decide}
 use Rattle.outline.specs.declared.visit.Visit.{Visit}
-use Rattle.outline.specs.Visits.{Sight, sight, literal, gap, metOf, sightOf, visited-from, visited, passing}
+use Rattle.outline.specs.Visits.{Sight, sight, literal, gap, metOf, sightOf, passing}
 use Rattle.outline.proofs.Walks.{Walks}
 use Rattle.outline.proofs.Places.{Begins, begins-at}
+use Rattle.outline.proofs.Visited.{visited-from, visited}
 
 -- what comes of an item that is passed: it is met, and the walk goes on after it
 record Passed (m : Meaning) (p c : ℕ) (item : Item) (rest : Lexed) (next : ℕ) : Type 0 where

@@ -1,5 +1,5 @@
 -- A hole of a run over what is walked: it is not refused, and the run goes on after it.
-use mathlib.Core.Path.{_≡_, sym, ap, subst, _∙_}
+use mathlib.Core.Path.{_≡_, sym, ap, subst}
 use mathlib.Core.List.{List}
 use Prim.Native.Nat.{ℕ, suc, _+_}
 use native.Mathlib.Numerals.{add-one}
@@ -17,9 +17,9 @@ use Rattle.template.proofs.Plans.{over, place-of, beyond, crosses}
 use Rattle.outline.specs.declared.untold.Untold.{Untold}
 use Rattle.outline.specs.declared.untold.Untold.the-variants.{Template, NoMemory}
 use Rattle.outline.specs.Telling.{Tells}
-use Rattle.outline.specs.Tokens.{items-of}
 use Rattle.outline.specs.Runs.{Comes}
 use Rattle.outline.proofs.Walks.{Walks}
+use Rattle.outline.proofs.Items.{items-of}
 
 -- what holds of the value in an option, and of its image
 into : {A B : Type 0} (f : A → B) (P : B → Type 0) (o : Option A) → Cases o ⊥ (λ x. P (f x)) → Cases (over f o) ⊥ P

@@ -1,27 +1,17 @@
 -- The tokens of a template's plan, and how the code's tokens tell them.
 use mathlib.Core.Path.{_≡_}
-use mathlib.Core.List.{List, [], _∷_, map}
+use mathlib.Core.List.{List, map}
 use Prim.Native.Nat.{ℕ}
 use Rattle.std.specs.Of.Vec.{vec-items}
 use Rattle.std.specs.declared.option.Option.the-variants.{Some}
 use Rattle.host.specs.Meaning.{Meaning}
 use Rattle.host.specs.Run as runs
-use Rattle.host.specs.Run.{Item, literal, hole, plan}
-use Rattle.template.specs.Lexing as lexing
-use Rattle.template.specs.Lexing.{Lexed, lexed-from}
+use Rattle.host.specs.Run.{plan}
+use Rattle.template.specs.Notation.{Piece, item}
+use Rattle.template.specs.Law.{Written}
 use Rattle.outline.specs.declared.token.Symbol.{Symbol}
 use Rattle.outline.specs.declared.token.Symbol.the-variants.{Byte, Mark}
 use Rattle.outline.specs.declared.token.Token.{Token}
-
--- The items of a template, up to the first fault of notation.
-abbrev pub items-of : Lexed → List Item
-items-of (lexing.byte p b rest) = literal b ∷ items-of rest
-items-of (lexing.hole p n rest) = hole ∷ items-of rest
-items-of (lexing.end p) = []
-items-of (lexing.fault r) = []
-
-abbrev pub items : List ℕ → List Item
-items t = items-of (lexed-from t 0)
 
 abbrev pub symbolOf : Symbol → runs.Symbol
 symbolOf (Byte b) = runs.byte b
@@ -30,6 +20,6 @@ symbolOf (Mark k) = runs.mark k
 abbrev pub tokenOf : Token → runs.Token
 tokenOf t = record { kind = t .kind; value = map symbolOf (vec-items (t .value)) }
 
--- The tokens are those of the plan.
+-- The tokens are those of the plan of the pieces that the template is the written form of.
 abbrev pub Planned : Meaning → List ℕ → List Token → Type 0
-Planned m t ts = plan m (items t) ≡ Some (map tokenOf ts)
+Planned m t ts = (ps : List Piece) → Written t ps → plan m (map item ps) ≡ Some (map tokenOf ts)

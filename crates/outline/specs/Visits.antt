@@ -1,13 +1,18 @@
--- What a run meets of a template: each item with its place and the context that it is read in.
-use mathlib.Core.List.{List, [], _∷_}
+-- What a run meets of a template: each piece with its place and the context that it is read in.
+use mathlib.Core.Path.{_≡_}
+use mathlib.Core.List.{List, [], _∷_, _++_, map}
 use Prim.Native.Nat.{ℕ}
+use lib.ListN.{length}
+use Rattle.std.specs.Joined.{joined}
 use Rattle.std.specs.declared.result.Result.{Result}
 use Rattle.std.specs.declared.result.Result.the-variants.{Ok, Err}
 use Rattle.host.specs.Meaning.{Meaning}
+use Rattle.host.specs.Run.{start, run}
 use Rattle.fault.specs.Refusal.{Report, report}
 use Rattle.template.specs.declared.item.Item.{Item}
 use Rattle.template.specs.declared.item.Item.the-variants.{Literal, Hole}
-use Rattle.template.specs.Lexing.{Lexed, byte, hole, end, fault, lexed-from}
+use Rattle.template.specs.Notation.{Piece, itself, escape, named, stands-for, written, item}
+use Rattle.template.specs.Law.{Written}
 use Rattle.template.specs.Judging.{crossing, decide}
 use Rattle.outline.specs.declared.visit.Visit.{Visit}
 
@@ -24,15 +29,18 @@ pub record Sight : Type 0 where
 abbrev pub sight : ℕ → ℕ → Met → Sight
 sight p c x = record { place = p; context = c; met = x }
 
--- From a context on, up to the first piece that is refused: the host steps over a literal and crosses a hole.
-abbrev pub visited-from : Meaning → Lexed → ℕ → List Sight
-visited-from m (byte p b rest) c = sight p c (literal b) ∷ decide (m .step c b) [] (λ s. visited-from m rest (s .0))
-visited-from m (hole p n rest) c = sight p c (gap n p) ∷ decide (crossing m c) [] (λ x. visited-from m rest (x .1))
-visited-from m (end p) c = []
-visited-from m (fault r) c = []
+-- What is met of a piece at a place.
+abbrev pub met-at : ℕ → Piece → Met
+met-at p (itself b) = literal b
+met-at p (escape e) = literal (stands-for e)
+met-at p (named n) = gap n p
 
-abbrev pub visited : Meaning → List ℕ → List Sight
-visited m t = visited-from m (lexed-from t 0) 0
+-- The pieces that stand after others, as far as the run goes: each at the place where the written form of those before it ends, in the context that their run has come to.
+abbrev pub sights : Meaning → List Piece → List Piece → List Sight
+sights m before [] = []
+sights m before (pc ∷ ps) =
+    let p = length (joined written before) in
+    decide (run m (map item before) 0 start) [] (λ s. sight p (s .context) (met-at p pc) ∷ sights m (before ++ (pc ∷ [])) ps)
 
 -- What the code's items and visits say.
 abbrev pub metOf : Item → Met
@@ -41,6 +49,10 @@ metOf (Hole h) = gap (h .name .now) (h .place)
 
 abbrev pub sightOf : Visit → Sight
 sightOf v = sight (v .place) (v .context) (metOf (v .item))
+
+-- The visits are those of the pieces that the template is the written form of.
+abbrev pub Visited : Meaning → List ℕ → List Visit → Type 0
+Visited m t vs = (ps : List Piece) → Written t ps → map sightOf vs ≡ sights m [] ps
 
 -- The context after an item, or the report of its refusal.
 abbrev pub passing : Meaning → ℕ → Item → ℕ → Result ℕ Report

@@ -1,11 +1,10 @@
 // What a host meets of a template, item by item.
 ghost use mathlib.Core.Path.{_≡_};
-ghost use mathlib.Core.List.{map};
 ghost use Rattle.std.specs.Of.Vec.{vec-items};
 ghost use Rattle.fault.specs.Refusal.{told-flaw};
 ghost use Rattle.template.specs.Judging.{verdict};
 ghost use Rattle.outline.specs.Telling.{Tells};
-ghost use Rattle.outline.specs.Visits.{sightOf, passing, visited};
+ghost use Rattle.outline.specs.Visits.{passing, Visited};
 use crate::untold::Untold;
 use crate::untold::UntoldFromFlaw;
 use crate::untold::UntoldFromRefused;
@@ -48,7 +47,7 @@ pub fn visits<'t, H: Host>(
     template: &'t [u8],
     host: &H,
 ) -> Result<Vec<Visit<'t>>, Untold>
-    ensures { λ r. ⌜ Tells r (verdict (meaning (now (host .entry))) (now (template .entry))) (λ v. map sightOf (vec-items v) ≡ visited (meaning (now (host .entry))) (now (template .entry))) ⌝ }
+    ensures { λ r. ⌜ Tells r (verdict (meaning (now (host .entry))) (now (template .entry))) (λ v. Visited (meaning (now (host .entry))) (now (template .entry)) (vec-items v)) ⌝ }
 {
     survey(template, host)?;
     let mut visits = Vec::new(heap);

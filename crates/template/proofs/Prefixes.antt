@@ -31,7 +31,7 @@ holes-append (escape e ∷ ps) qs = holes-append ps qs
 holes-append (named n ∷ ps) qs = ap (λ k. k + 1) (holes-append ps qs) ∙ omega arith
 
 module _ (m : Meaning) where
-  visits-append : (is js : List Item) (c : ℕ) → visits m (is ++ js) c ≡ chain (visits m is c) (visits m js)
+  pub visits-append : (is js : List Item) (c : ℕ) → visits m (is ++ js) c ≡ chain (visits m is c) (visits m js)
   visits-append [] js c = refl
   visits-append (literal b ∷ is) js c =
       elim (m .step c b) as (λ o. chain o (λ s. visits m (is ++ js) (s .0)) ≡ chain (chain o (λ s. visits m is (s .0))) (visits m js)) [ None ↦ refl | Some s ↦ visits-append is js (s .0) ]

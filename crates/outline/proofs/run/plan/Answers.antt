@@ -1,17 +1,25 @@
 use mathlib.Core.Path.{_≡_, sym, ap, subst, _∙_}
+use mathlib.Core.List.{map}
 use Prim.Native.Nat.{_+_, _≤_}
 use native.Mathlib.Omega.{arith}
 use lib.ListN.{length}
 use borrow.Author.Needs.{needs}
 use Rattle.std.specs.Of.Vec.{vec-items}
+use Rattle.std.specs.declared.option.Option.the-variants.{Some}
+use Rattle.std.specs.declared.result.Result.{Result}
+use Rattle.std.specs.declared.result.Result.the-variants.{Ok, Err}
 use Rattle.std.proofs.shelf.Results.{err-from-errBy}
 use Rattle.fault.specs.declared.flaw.Flaw.the-variants.{HoleRefused}
-use Rattle.host.specs.Run.{run}
+use Rattle.host.specs.Run.{run, plan}
 use Rattle.template.specs.Lexing.{lexed-from, hole}
-use Rattle.template.specs.Judging.{verdict}
-use Rattle.outline.specs.Tokens.{items-of, items, Planned}
+use Rattle.template.specs.Judging.{Verdict, verdict}
+use Rattle.outline.specs.declared.untold.Untold.{Untold}
+use Rattle.outline.specs.declared.untold.Untold.the-variants.{Template, NoMemory}
+use Rattle.outline.specs.Telling.{Tells}
+use Rattle.outline.specs.Tokens.{tokenOf, Planned}
 use Rattle.outline.specs.Runs.{stateOf}
 use Rattle.outline.proofs.Walks.{Walks, accepted-walks}
+use Rattle.outline.proofs.Items.{items-of, items, planned}
 use Rattle.outline.proofs.Turns.{hole-walks, hole-runs, hole-told}
 use Rattle.outline.proofs.run.plan.Needs as need
 
@@ -52,3 +60,15 @@ loop-run-again g c =
       hole-walks m rest (h .place) (h .name .now) k s walked after crossed,
       sym (hole-runs m rest (h .place) (h .name .now) k s walked after crossed) ∙ ap (λ l. run m (items-of l) k s) (sym read) ∙ c .loop-run .inv .3,
     )
+
+-- what is told with P is told with what P gives
+told : {A : Type 0} (P Q : A → Type 0) → ((x : A) → P x → Q x) → (r : Result A Untold) (v : Verdict) → Tells r v P → Tells r v Q
+told P Q f (Ok x) v e = (e .0, f x (e .1))
+told P Q f (Err (Template flaw)) v e = e
+told P Q f (Err NoMemory) v e = tt
+
+pub returns : need.returns
+returns g c =
+    let m = g .H·Host .meaning (c .args .host .now) in
+    let t = c .args .template .now in
+    told (λ v. plan m (items t) ≡ Some (map tokenOf (vec-items v))) (λ v. Planned m t (vec-items v)) (λ v. planned m t (vec-items v)) (c .finish .result) (verdict m t) (search needs)

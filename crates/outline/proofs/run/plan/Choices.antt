@@ -3,9 +3,9 @@ use Prim.Native.Nat.{_-_, _≤_}
 use lib.ListN.{length}
 use Rattle.host.specs.Run.{run, start}
 use Rattle.template.specs.Lexing.{lexed-from}
-use Rattle.outline.specs.Tokens.{items-of, items}
 use Rattle.outline.specs.Runs.{stateOf}
 use Rattle.outline.proofs.Walks.{Walks}
+use Rattle.outline.proofs.Items.{items-of, items}
 use Rattle.outline.proofs.run.plan.Given as given
 
 abbrev pub Inv-loop-run : given.InvT-loop-run

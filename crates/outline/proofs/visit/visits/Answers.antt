@@ -7,8 +7,9 @@ use borrow.Author.Needs.{needs}
 use Rattle.std.specs.Of.Vec.{vec-items}
 use Rattle.template.specs.Lexing.{lexed-from, then}
 use Rattle.outline.specs.declared.visit.Visit.{Visit}
-use Rattle.outline.specs.Visits.{sightOf, visited}
+use Rattle.outline.specs.Visits.{sightOf}
 use Rattle.outline.proofs.Walks.{accepted-walks}
+use Rattle.outline.proofs.Visited.{visited, visited-sights}
 use Rattle.outline.proofs.Sights.{met-more}
 use Rattle.outline.proofs.visit.visits.Needs as need
 
@@ -30,3 +31,9 @@ loop-visits-again g c =
     let pushed : vec-items (c .push .last .self) ≡ vec-items (c .loop-visits .visits) ++ (visit ∷ []) = search needs in
     let r = met-more m t visit next (c .in-Continue-context .context) _ _ read (c .loop-visits .inv .1) (c .in-Continue-context .ensures tt) pushed (c .loop-visits .inv .2) in
     (within, r .0, r .1)
+
+pub returns : need.returns
+returns g c =
+    let m = g .H·Host .meaning (c .args .host .now) in
+    let t = c .args .template .now in
+    search (needs, visited-sights m t)

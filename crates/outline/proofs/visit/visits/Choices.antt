@@ -4,8 +4,9 @@ use Prim.Native.Nat.{_-_, _≤_}
 use lib.ListN.{length}
 use Rattle.std.specs.Of.Vec.{vec-items}
 use Rattle.template.specs.Lexing.{lexed-from}
-use Rattle.outline.specs.Visits.{sightOf, visited, visited-from}
+use Rattle.outline.specs.Visits.{sightOf}
 use Rattle.outline.proofs.Walks.{Walks}
+use Rattle.outline.proofs.Visited.{visited, visited-from}
 use Rattle.outline.proofs.visit.visits.Given as given
 
 abbrev pub Inv-loop-visits : given.InvT-loop-visits
