@@ -15,11 +15,11 @@ use crate::untold::UntoldFromAlloc;
 use crate::untold::UntoldFromFlaw;
 use fault::Flaw;
 use host::Host;
+use host::answer::or_error;
 use host::effect::Effect;
 use host::effect::Middle;
 use std::alloc::AllocError;
 use std::alloc::Global;
-use template::check::or_flaw;
 use template::check::survey;
 use template::item::Item;
 use template::lexer::item_at;
@@ -102,7 +102,7 @@ impl Run {
     fn read<H: Host>(&mut self, host: &H, byte: u8, flaw: Flaw) -> Result<(), Untold>
         ensures { λ r. ⌜ Comes r flaw (read-byte (meaning (now (host .entry))) byte (stateOf (now (self .entry)))) (λ _. stateOf (now (self .exit))) ⌝ }
     {
-        let (next, effect) = or_flaw(host.step(self.context, byte), flaw)?;
+        let (next, effect) = or_error(host.step(self.context, byte), flaw)?;
         self.apply(effect)?;
         self.context = next;
         Ok(())
@@ -135,7 +135,7 @@ impl Run {
     fn finish<H: Host>(mut self, host: &H, flaw: Flaw) -> Result<Vec<Token>, Untold>
         ensures { λ r. ⌜ Comes r flaw (read-end (meaning (now (host .entry))) (stateOf self)) (λ v. map tokenOf (vec-items v)) ⌝ }
     {
-        let effect = or_flaw(host.end(self.context), flaw)?;
+        let effect = or_error(host.end(self.context), flaw)?;
         self.apply(effect)?;
         Ok(self.closed)
     }

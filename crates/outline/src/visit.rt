@@ -10,9 +10,9 @@ use crate::untold::UntoldFromFlaw;
 use crate::untold::UntoldFromRefused;
 use fault::Flaw;
 use host::Host;
+use host::answer::or_error;
 use std::alloc::Global;
 use template::check::cross;
-use template::check::or_flaw;
 use template::check::survey;
 use template::item::Item;
 use template::lexer::item_at;
@@ -31,11 +31,11 @@ fn pass<H: Host>(host: &H, context: u8, item: Item<'_>, place: usize) -> Result<
 {
     match item {
         Item::Literal(byte) => {
-            let (next, _) = or_flaw(host.step(context, byte), Flaw::LiteralRefused { place })?;
+            let (next, _) = or_error(host.step(context, byte), Flaw::LiteralRefused { place })?;
             Ok(next)
         }
         Item::Hole(_) => {
-            let (_, next) = or_flaw(cross(host, context), Flaw::HoleRefused { place })?;
+            let (_, next) = or_error(cross(host, context), Flaw::HoleRefused { place })?;
             Ok(next)
         }
     }

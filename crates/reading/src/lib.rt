@@ -14,6 +14,7 @@ use cursor::after;
 use cursor::write;
 use fault::Fault;
 use host::Host;
+use host::answer::or_error;
 
 const MOST: usize = 65534;
 
@@ -27,18 +28,13 @@ fn measure<H: Host>(host: &H, text: &[u8]) -> Result<usize, Fault>
     let mut context = 0;
     let mut cursor = ORIGIN;
     for (place, byte) in text.iter().enumerate() {
-        match host.step(context, *byte) {
-            Ok((next, effect)) => {
-                cursor = after(effect, cursor);
-                context = next;
-            }
-            Err(_) => return Err(Fault::TextRefused { place }),
-        }
+        let (next, effect) = or_error(host.step(context, *byte), Fault::TextRefused { place })?;
+        cursor = after(effect, cursor);
+        context = next;
     }
-    match host.end(context) {
-        Ok(effect) => Ok(after(effect, cursor).at),
-        Err(_) => Err(Fault::TextRefused { place: text.len() }),
-    }
+    let place = text.len();
+    let effect = or_error(host.end(context), Fault::TextRefused { place })?;
+    Ok(after(effect, cursor).at)
 }
 
 // Writes the fields of a text that is measured.
