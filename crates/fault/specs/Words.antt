@@ -7,7 +7,7 @@ use Rattle.fault.specs.declared.flaw.Flaw.{Flaw}
 use Rattle.fault.specs.declared.flaw.Flaw.the-variants.{TooLong, StrayAt, BadName, TooManyHoles, LiteralRefused, HoleRefused, EndRefused}
 use Rattle.fault.specs.declared.fault.Fault.{Fault}
 use Rattle.fault.specs.declared.fault.Fault.the-variants.{Template, OutputTooShort, TextTooLong, TextRefused}
-use Rattle.fault.specs.Refusal.{Refusal, flawOf, refusalOf, of-template}
+use Rattle.fault.specs.Refusal.{refusalOf}
 
 abbrev pub flaw-words : Flaw → List ℕ
 flaw-words TooLong = codes "the template has more than 3584 bytes"
@@ -24,11 +24,5 @@ fault-words (OutputTooShort needed) = codes "the output is too short; the place 
 fault-words TextTooLong = codes "the text has more than 65534 bytes"
 fault-words (TextRefused p) = codes "the host does not take this byte, or the end, here"
 
-abbrev pub line : Refusal → List ℕ → List ℕ
-line r words = decimal (r .number) ++ (codes " place " ++ (decimal (r .place) ++ (codes ": " ++ words)))
-
-abbrev pub flaw-line : Flaw → List ℕ
-flaw-line f = line (of-template (flawOf f)) (flaw-words f)
-
 abbrev pub fault-line : Fault → List ℕ
-fault-line f = line (refusalOf f) (fault-words f)
+fault-line f = decimal (refusalOf f .number) ++ (codes " place " ++ (decimal (refusalOf f .place) ++ (codes ": " ++ fault-words f)))

@@ -1,7 +1,8 @@
 // Refusals as text: the number, the place and a sentence.
 ghost use mathlib.Core.Path.{_≡_};
 ghost use Rattle.std.specs.declared.option.Option.the-variants.{Some};
-ghost use Rattle.fault.specs.Words.{flaw-words, fault-words, flaw-line, fault-line};
+ghost use Rattle.fault.specs.declared.fault.Fault.the-variants.{Template};
+ghost use Rattle.fault.specs.Words.{flaw-words, fault-words, fault-line};
 use crate::fault::Fault;
 use crate::flaw::Flaw;
 use std::fmt;
@@ -31,17 +32,6 @@ fn fault_words(fault: &Fault) -> &'static str
     }
 }
 
-pub impl fmt::Display for Flaw as FlawDisplay {
-    ghost shown = { λ flaw. Some (flaw-line flaw) };
-
-    fn fmt<W: fmt::Write>(&self, f: &mut fmt::Formatter<W>) -> fmt::Result {
-        let number = self.number();
-        let place = self.place();
-        let words = flaw_words(self);
-        write!(f, "{number} place {place}: {words}")
-    }
-}
-
 pub impl fmt::Display for Fault as FaultDisplay {
     ghost shown = { λ fault. Some (fault-line fault) };
 
@@ -50,5 +40,14 @@ pub impl fmt::Display for Fault as FaultDisplay {
         let place = self.place();
         let words = fault_words(self);
         write!(f, "{number} place {place}: {words}")
+    }
+}
+
+// A flaw is written as the fault that it comes to.
+pub impl fmt::Display for Flaw as FlawDisplay {
+    ghost shown = { λ flaw. Some (fault-line (Template flaw)) };
+
+    fn fmt<W: fmt::Write>(&self, f: &mut fmt::Formatter<W>) -> fmt::Result {
+        Fault::Template(*self).fmt(f)
     }
 }
