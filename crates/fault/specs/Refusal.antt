@@ -7,7 +7,7 @@ use Rattle.std.specs.declared.result.Result.the-variants.{Ok, Err}
 use Rattle.fault.specs.declared.flaw.Flaw.{Flaw}
 use Rattle.fault.specs.declared.flaw.Flaw.the-variants.{TooLong, StrayAt, BadName, TooManyHoles, LiteralRefused, HoleRefused, EndRefused}
 use Rattle.fault.specs.declared.fault.Fault.{Fault}
-use Rattle.fault.specs.declared.fault.Fault.the-variants.{Template, OutputTooShort, TextTooLong, TextRefused}
+use Rattle.fault.specs.declared.fault.Fault.the-variants.{Template, OutputTooShort, TextTooLong, TextRefused, FieldCutShort, UnknownTag, TagOutOfTurn, BadRecordName, RecordValueTooLong, TooManyNames, NameTwice, EndWithLength}
 
 -- What is wrong with a template: the refusal's number and its place.
 pub record Report : Type 0 where
@@ -45,6 +45,14 @@ refusalOf (Template f) = of-template (flawOf f)
 refusalOf (OutputTooShort needed) = plain 17 needed
 refusalOf TextTooLong = plain 18 0
 refusalOf (TextRefused p) = plain 19 p
+refusalOf (FieldCutShort p) = plain 20 p
+refusalOf (UnknownTag p) = plain 21 p
+refusalOf (TagOutOfTurn p) = plain 22 p
+refusalOf (BadRecordName p) = plain 23 p
+refusalOf (RecordValueTooLong p) = plain 24 p
+refusalOf (TooManyNames p) = plain 25 p
+refusalOf (NameTwice p) = plain 26 p
+refusalOf (EndWithLength p) = plain 27 p
 
 -- An answer, with what a refusal says in place of the refusal.
 abbrev pub told-flaw : {A : Type 0} → Result A Flaw → Result A Report

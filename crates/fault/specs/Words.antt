@@ -6,7 +6,7 @@ use Rattle.std.specs.Written.{decimal}
 use Rattle.fault.specs.declared.flaw.Flaw.{Flaw}
 use Rattle.fault.specs.declared.flaw.Flaw.the-variants.{TooLong, StrayAt, BadName, TooManyHoles, LiteralRefused, HoleRefused, EndRefused}
 use Rattle.fault.specs.declared.fault.Fault.{Fault}
-use Rattle.fault.specs.declared.fault.Fault.the-variants.{Template, OutputTooShort, TextTooLong, TextRefused}
+use Rattle.fault.specs.declared.fault.Fault.the-variants.{Template, OutputTooShort, TextTooLong, TextRefused, FieldCutShort, UnknownTag, TagOutOfTurn, BadRecordName, RecordValueTooLong, TooManyNames, NameTwice, EndWithLength}
 use Rattle.fault.specs.Refusal.{refusalOf}
 
 abbrev pub flaw-words : Flaw → List ℕ
@@ -23,6 +23,14 @@ fault-words (Template f) = flaw-words f
 fault-words (OutputTooShort needed) = codes "the output is too short; the place is the length needed"
 fault-words TextTooLong = codes "the text has more than 65534 bytes"
 fault-words (TextRefused p) = codes "the host does not take this byte, or the end, here"
+fault-words (FieldCutShort p) = codes "the input ends before the record does"
+fault-words (UnknownTag p) = codes "the tag of a field is 1, 2 or 3"
+fault-words (TagOutOfTurn p) = codes "a name comes before its value, and a value after its name"
+fault-words (BadRecordName p) = codes "a name is 1 to 16 of a-z 0-9 _, a letter first"
+fault-words (RecordValueTooLong p) = codes "a value has at most 160 bytes"
+fault-words (TooManyNames p) = codes "a record has at most 64 names"
+fault-words (NameTwice p) = codes "the record has this name already"
+fault-words (EndWithLength p) = codes "the end of a record has length 0"
 
 abbrev pub fault-line : Fault → List ℕ
 fault-line f = decimal (refusalOf f .number) ++ (codes " place " ++ (decimal (refusalOf f .place) ++ (codes ": " ++ fault-words f)))

@@ -29,6 +29,14 @@ fn fault_words(fault: &Fault) -> &'static str
         Fault::OutputTooShort { .. } => "the output is too short; the place is the length needed",
         Fault::TextTooLong => "the text has more than 65534 bytes",
         Fault::TextRefused { .. } => "the host does not take this byte, or the end, here",
+        Fault::FieldCutShort { .. } => "the input ends before the record does",
+        Fault::UnknownTag { .. } => "the tag of a field is 1, 2 or 3",
+        Fault::TagOutOfTurn { .. } => "a name comes before its value, and a value after its name",
+        Fault::BadRecordName { .. } => "a name is 1 to 16 of a-z 0-9 _, a letter first",
+        Fault::RecordValueTooLong { .. } => "a value has at most 160 bytes",
+        Fault::TooManyNames { .. } => "a record has at most 64 names",
+        Fault::NameTwice { .. } => "the record has this name already",
+        Fault::EndWithLength { .. } => "the end of a record has length 0",
     }
 }
 

@@ -16,6 +16,22 @@ pub enum Fault {
     TextTooLong,
     // The host refuses a byte of the text, or its end.
     TextRefused { place: usize },
+    // The input ends in a field or in a record, or the place lies past it.
+    FieldCutShort { place: usize },
+    // A tag that is none of 1, 2 and 3.
+    UnknownTag { place: usize },
+    // A value where a name or the end is due, or another field where a value is due.
+    TagOutOfTurn { place: usize },
+    // A name that no hole could have.
+    BadRecordName { place: usize },
+    // A value of more than 160 bytes.
+    RecordValueTooLong { place: usize },
+    // The 65th name.
+    TooManyNames { place: usize },
+    // A name that the record has already.
+    NameTwice { place: usize },
+    // The end of a record with a length that is not 0.
+    EndWithLength { place: usize },
 }
 
 impl Fault {
@@ -28,6 +44,14 @@ impl Fault {
             Fault::OutputTooShort { .. } => 17,
             Fault::TextTooLong => 18,
             Fault::TextRefused { .. } => 19,
+            Fault::FieldCutShort { .. } => 20,
+            Fault::UnknownTag { .. } => 21,
+            Fault::TagOutOfTurn { .. } => 22,
+            Fault::BadRecordName { .. } => 23,
+            Fault::RecordValueTooLong { .. } => 24,
+            Fault::TooManyNames { .. } => 25,
+            Fault::NameTwice { .. } => 26,
+            Fault::EndWithLength { .. } => 27,
         }
     }
 
@@ -37,9 +61,7 @@ impl Fault {
     {
         match self {
             Fault::Template(_) => None,
-            Fault::OutputTooShort { .. } => None,
-            Fault::TextTooLong => None,
-            Fault::TextRefused { .. } => None,
+            _ => None,
         }
     }
 
@@ -52,6 +74,14 @@ impl Fault {
             Fault::OutputTooShort { needed } => *needed,
             Fault::TextTooLong => 0,
             Fault::TextRefused { place } => *place,
+            Fault::FieldCutShort { place } => *place,
+            Fault::UnknownTag { place } => *place,
+            Fault::TagOutOfTurn { place } => *place,
+            Fault::BadRecordName { place } => *place,
+            Fault::RecordValueTooLong { place } => *place,
+            Fault::TooManyNames { place } => *place,
+            Fault::NameTwice { place } => *place,
+            Fault::EndWithLength { place } => *place,
         }
     }
 }

@@ -2,7 +2,7 @@
 use std::env;
 use std::error::AnyError;
 
-// What is to be done.
+// What is to be done under a host.
 #[derive(Clone, Copy)]
 pub enum Action {
     Check,
@@ -10,12 +10,20 @@ pub enum Action {
     ListRaw,
 }
 
-// An action, the name of a host and a file.
+// What the command line asks for: an action under the host of that name, on a file; or something that needs no host.
 #[derive(Drop)]
-pub struct Job {
-    pub action: Action,
-    pub host: String,
-    pub file: String,
+pub enum Job {
+    Hosted {
+        action: Action,
+        host: String,
+        file: String,
+    },
+    Records {
+        file: String,
+    },
+    Pack {
+        file: String,
+    },
 }
 
 // The job that the command line gives, if it gives one.
@@ -25,14 +33,23 @@ pub fn job_asked(rt: &LibcRuntime) -> Result<Option<Job>, AnyError> {
     let (Some(name), Some(next)) = (words.next(), words.next()) else {
         return Ok(None);
     };
-    let (action, host) = match (name.as_str(), next.as_str()) {
-        ("check", _) => (Action::Check, Some(next)),
-        ("list", "--raw") => (Action::ListRaw, words.next()),
-        ("list", _) => (Action::List, Some(next)),
-        _ => return Ok(None),
+    let job = match (name.as_str(), next.as_str()) {
+        ("check", _) => hosted(Action::Check, Some(next), words.next()),
+        ("list", "--raw") => hosted(Action::ListRaw, words.next(), words.next()),
+        ("list", _) => hosted(Action::List, Some(next), words.next()),
+        ("records", _) => Some(Job::Records { file: next }),
+        ("pack", _) => Some(Job::Pack { file: next }),
+        _ => None,
     };
-    let (Some(host), Some(file), None) = (host, words.next(), words.next()) else {
+    if words.next().is_some() {
         return Ok(None);
+    }
+    Ok(job)
+}
+
+fn hosted(action: Action, host: Option<String>, file: Option<String>) -> Option<Job> {
+    let (Some(host), Some(file)) = (host, file) else {
+        return None;
     };
-    Ok(Some(Job { action, host, file }))
+    Some(Job::Hosted { action, host, file })
 }

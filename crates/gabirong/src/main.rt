@@ -3,6 +3,8 @@ mod check;
 mod command;
 mod input;
 mod listing;
+mod pack;
+mod records;
 mod refusal;
 mod shown;
 
@@ -15,6 +17,8 @@ use csv::CsvHost;
 use host::Host;
 use listing::list_raw;
 use listing::list_text;
+use pack::pack;
+use records::tell_records;
 use shell::Shell;
 use shell::ShellHost;
 use sql::Sql;
@@ -23,6 +27,8 @@ use std::error::AnyError;
 
 const USAGE: &str = "usage: gabirong check HOST TEMPLATE-FILE
        gabirong list [--raw] HOST TEXT-FILE
+       gabirong records RECORD-FILE
+       gabirong pack LINES-FILE
 HOST is shell, sql or csv; a file that is - is standard input";
 
 // How a command ended: done, or refused with the reason printed.
@@ -31,28 +37,32 @@ pub enum Outcome {
     Refused,
 }
 
-// Does what the command line asks for, under the host that it names.
+// Does what the command line asks for.
 fn run(rt: &LibcRuntime) -> Result<Outcome, AnyError> {
     let Some(job) = job_asked(rt)? else {
         return usage(rt);
     };
-    match job.host.as_str() {
-        "shell" => perform(rt, &job, &Shell, &["word", "operator"]),
-        "sql" => perform(rt, &job, &Sql, &["word", "text", "sign"]),
-        "csv" => perform(rt, &job, &Csv, &["field", "row"]),
-        _ => usage(rt),
+    match job {
+        Job::Hosted { action, host, file } => match host.as_str() {
+            "shell" => perform(rt, action, &Shell, &["word", "operator"], file.as_str()),
+            "sql" => perform(rt, action, &Sql, &["word", "text", "sign"], file.as_str()),
+            "csv" => perform(rt, action, &Csv, &["field", "row"], file.as_str()),
+            _ => usage(rt),
+        },
+        Job::Records { file } => tell_records(rt, file.as_str()),
+        Job::Pack { file } => pack(rt, file.as_str()),
     }
 }
 
 // `kinds` are the names of the host's kinds of tokens, from 1.
 fn perform<H: Host>(
     rt: &LibcRuntime,
-    job: &Job,
+    action: Action,
     host: &H,
     kinds: &[&str],
+    file: &str,
 ) -> Result<Outcome, AnyError> {
-    let file = job.file.as_str();
-    match job.action {
+    match action {
         Action::Check => check_template(rt, host, kinds, file),
         Action::List => list_text(rt, host, kinds, file),
         Action::ListRaw => list_raw(rt, host, file),
