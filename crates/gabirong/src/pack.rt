@@ -79,14 +79,7 @@ fn close(
     file: &mut Vec<u8>,
     lines: &mut Vec<OwnedPair>,
 ) -> Result<bool, AnyError> {
-    let mut pairs = Vec::new(rt.alloc());
-    for line in lines.iter() {
-        pairs.push(Pair {
-            name: line.name.as_slice(),
-            value: line.value.as_slice(),
-        })?;
-    }
-    let written = write_record(file, pairs.as_slice());
+    let written = write_lines(rt.alloc(), file, lines.as_slice());
     lines.clear();
     match written {
         Ok(()) => Ok(true),
@@ -96,4 +89,18 @@ fn close(
         }
         Err(Unwritten::NoMemory) => Err("no memory for the record".into()),
     }
+}
+
+fn write_lines(heap: Global, file: &mut Vec<u8>, lines: &[OwnedPair]) -> Result<(), Unwritten> {
+    let mut pairs = Vec::new(heap);
+    for line in lines {
+        let pair = Pair {
+            name: line.name.as_slice(),
+            value: line.value.as_slice(),
+        };
+        if pairs.push(pair).is_err() {
+            return Err(Unwritten::NoMemory);
+        }
+    }
+    write_record(file, pairs.as_slice())
 }
