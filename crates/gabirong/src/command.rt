@@ -21,8 +21,9 @@ pub enum Job {
     Records {
         file: String,
     },
+    // Without a file, standard input.
     Pack {
-        file: String,
+        file: Option<String>,
     },
 }
 
@@ -30,15 +31,17 @@ pub enum Job {
 pub fn job_asked(rt: &LibcRuntime) -> Result<Option<Job>, AnyError> {
     let mut words = env::args(rt)?;
     let _ = words.next();
-    let (Some(name), Some(next)) = (words.next(), words.next()) else {
+    let (Some(name), next) = (words.next(), words.next()) else {
         return Ok(None);
     };
-    let job = match (name.as_str(), next.as_str()) {
-        ("check", _) => hosted(Action::Check, Some(next), words.next()),
-        ("list", "--raw") => hosted(Action::ListRaw, words.next(), words.next()),
-        ("list", _) => hosted(Action::List, Some(next), words.next()),
-        ("records", _) => Some(Job::Records { file: next }),
-        ("pack", _) => Some(Job::Pack { file: next }),
+    let job = match (name.as_str(), next) {
+        ("pack", file) => Some(Job::Pack { file }),
+        ("records", Some(file)) => Some(Job::Records { file }),
+        ("check", host) => hosted(Action::Check, host, words.next()),
+        ("list", Some(flag)) if flag.as_str() == "--raw" => {
+            hosted(Action::ListRaw, words.next(), words.next())
+        }
+        ("list", host) => hosted(Action::List, host, words.next()),
         _ => None,
     };
     if words.next().is_some() {

@@ -28,7 +28,7 @@ use std::error::AnyError;
 const USAGE: &str = "usage: gabirong check HOST TEMPLATE-FILE
        gabirong list [--raw] HOST TEXT-FILE
        gabirong records RECORD-FILE
-       gabirong pack LINES-FILE
+       gabirong pack [LINES-FILE]
 HOST is shell, sql or csv; a file that is - is standard input";
 
 // How a command ended: done, or refused with the reason printed.
@@ -50,7 +50,8 @@ fn run(rt: &LibcRuntime) -> Result<Outcome, AnyError> {
             _ => usage(rt),
         },
         Job::Records { file } => tell_records(rt, file.as_str()),
-        Job::Pack { file } => pack(rt, file.as_str()),
+        Job::Pack { file: Some(file) } => pack(rt, file.as_str()),
+        Job::Pack { file: None } => pack(rt, "-"),
     }
 }
 
