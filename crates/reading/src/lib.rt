@@ -16,8 +16,10 @@ use fault::Fault;
 use host::Host;
 use host::answer::or_error;
 
+// The most bytes that a text may have, so that the length of each token fits two bytes.
 const MOST: usize = 65534;
 
+// Where a listing begins.
 const ORIGIN: Cursor = Cursor { at: 0, held: 0 };
 
 // The length of the fields, or the place that the host refuses.

@@ -1,5 +1,4 @@
 // What reading a record answers: places and lengths in the input, and what is refused.
-
 use fault::Fault;
 
 // Some bytes of the input.
@@ -9,16 +8,21 @@ pub struct Span {
     pub len: usize,
 }
 
+// A pair of a record: where its name and its value lie.
 #[derive(Clone, Copy, PartialEq, Debug)]
 pub struct Entry {
     pub name: Span,
     pub value: Span,
 }
 
+// What came of reading at a place.
 #[derive(Clone, Copy, PartialEq, Debug)]
 pub enum State {
+    // A record stands there.
     Found,
+    // The place is the end of the input.
     End,
+    // The record is refused.
     Refused,
 }
 

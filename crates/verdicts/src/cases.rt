@@ -1,15 +1,23 @@
 // The table: templates, and their verdicts by the rules.
 #[derive(Clone, Copy)]
+pub enum Under {
+    Shell,
+    Sql,
+    Csv,
+}
+
+#[derive(Clone, Copy)]
 pub enum Verdict {
-    // Accepted, with this many holes.
-    Holes(usize),
+    // Accepted, with this many holes, all of them with this body.
+    Holes(usize, u8),
     // Refused: the number and the place.
     Refused(u8, usize),
 }
 
-// A template: `row`, `times` times, and then `rest`.
+// A template under a host: `row`, `times` times, and then `rest`.
 #[derive(Clone, Copy)]
 pub struct Case {
+    pub under: Under,
     pub name: &'static str,
     pub row: &'static [u8],
     pub times: usize,
@@ -17,120 +25,137 @@ pub struct Case {
     pub verdict: Verdict,
 }
 
-pub static CASES: [Case; 70] = [
+pub static SQL_CASES: [Case; 70] = [
     Case {
+        under: Under::Sql,
         name: "the empty template",
         row: b"",
         times: 1,
         rest: b"",
-        verdict: Verdict::Holes(0),
+        verdict: Verdict::Holes(0, 2),
     },
     Case {
+        under: Under::Sql,
         name: "an insert with two holes",
         row: b"INSERT INTO runs VALUES (@{run}, @{depth});",
         times: 1,
         rest: b"",
-        verdict: Verdict::Holes(2),
+        verdict: Verdict::Holes(2, 2),
     },
     Case {
+        under: Under::Sql,
         name: "a hole, a quote, a hole and a quote",
         row: b"@{a}'@{b}'",
         times: 1,
         rest: b"",
-        verdict: Verdict::Holes(2),
+        verdict: Verdict::Holes(2, 2),
     },
     Case {
+        under: Under::Sql,
         name: "a hole alone in a text",
         row: b"'@{a}'",
         times: 1,
         rest: b"",
-        verdict: Verdict::Holes(1),
+        verdict: Verdict::Holes(1, 2),
     },
     Case {
+        under: Under::Sql,
         name: "two holes in one text",
         row: b"'@{a}@{b}'",
         times: 1,
         rest: b"",
-        verdict: Verdict::Holes(2),
+        verdict: Verdict::Holes(2, 2),
     },
     Case {
+        under: Under::Sql,
         name: "a name twice",
         row: b"@{a},@{a}",
         times: 1,
         rest: b"",
-        verdict: Verdict::Holes(2),
+        verdict: Verdict::Holes(2, 2),
     },
     Case {
+        under: Under::Sql,
         name: "escapes that are blanks",
         row: b"@n@r@t",
         times: 1,
         rest: b"",
-        verdict: Verdict::Holes(0),
+        verdict: Verdict::Holes(0, 2),
     },
     Case {
+        under: Under::Sql,
         name: "an at-sign in a text",
         row: b"'@@'",
         times: 1,
         rest: b"",
-        verdict: Verdict::Holes(0),
+        verdict: Verdict::Holes(0, 2),
     },
     Case {
+        under: Under::Sql,
         name: "a doubled quote in a text",
         row: b"'it''s'",
         times: 1,
         rest: b"",
-        verdict: Verdict::Holes(0),
+        verdict: Verdict::Holes(0, 2),
     },
     Case {
+        under: Under::Sql,
         name: "a byte above 7F in a text",
         row: b"'\xc3\xa9'",
         times: 1,
         rest: b"",
-        verdict: Verdict::Holes(0),
+        verdict: Verdict::Holes(0, 2),
     },
     Case {
+        under: Under::Sql,
         name: "a name of one byte",
         row: b"@{z}",
         times: 1,
         rest: b"",
-        verdict: Verdict::Holes(1),
+        verdict: Verdict::Holes(1, 2),
     },
     Case {
+        under: Under::Sql,
         name: "a name of sixteen bytes",
         row: b"@{abcdefghijklmnop}",
         times: 1,
         rest: b"",
-        verdict: Verdict::Holes(1),
+        verdict: Verdict::Holes(1, 2),
     },
     Case {
+        under: Under::Sql,
         name: "a name with digits and underscores",
         row: b"@{a_0__9}",
         times: 1,
         rest: b"",
-        verdict: Verdict::Holes(1),
+        verdict: Verdict::Holes(1, 2),
     },
     Case {
+        under: Under::Sql,
         name: "64 holes",
         row: b"@{a},",
         times: 64,
         rest: b"",
-        verdict: Verdict::Holes(64),
+        verdict: Verdict::Holes(64, 2),
     },
     Case {
+        under: Under::Sql,
         name: "3,584 bytes",
         row: b"a",
         times: 3584,
         rest: b"",
-        verdict: Verdict::Holes(0),
+        verdict: Verdict::Holes(0, 2),
     },
     Case {
+        under: Under::Sql,
         name: "3,584 bytes that end in a hole",
         row: b" ",
         times: 3580,
         rest: b"@{a}",
-        verdict: Verdict::Holes(1),
+        verdict: Verdict::Holes(1, 2),
     },
     Case {
+        under: Under::Sql,
         name: "3,585 bytes",
         row: b"a",
         times: 3585,
@@ -138,6 +163,7 @@ pub static CASES: [Case; 70] = [
         verdict: Verdict::Refused(1, 3584),
     },
     Case {
+        under: Under::Sql,
         name: "3,585 bytes, the last of them refused",
         row: b"a",
         times: 3584,
@@ -145,6 +171,7 @@ pub static CASES: [Case; 70] = [
         verdict: Verdict::Refused(1, 3584),
     },
     Case {
+        under: Under::Sql,
         name: "over-long before a fault at the first byte",
         row: b"-",
         times: 3585,
@@ -152,6 +179,7 @@ pub static CASES: [Case; 70] = [
         verdict: Verdict::Refused(1, 3584),
     },
     Case {
+        under: Under::Sql,
         name: "3,584 bytes, the first of them refused",
         row: b"-",
         times: 3584,
@@ -159,6 +187,7 @@ pub static CASES: [Case; 70] = [
         verdict: Verdict::Refused(6, 0),
     },
     Case {
+        under: Under::Sql,
         name: "3,584 bytes, the last of them refused",
         row: b"a",
         times: 3583,
@@ -166,6 +195,7 @@ pub static CASES: [Case; 70] = [
         verdict: Verdict::Refused(6, 3583),
     },
     Case {
+        under: Under::Sql,
         name: "an at-sign alone",
         row: b"@",
         times: 1,
@@ -173,6 +203,7 @@ pub static CASES: [Case; 70] = [
         verdict: Verdict::Refused(2, 0),
     },
     Case {
+        under: Under::Sql,
         name: "an at-sign at the end",
         row: b"ab@",
         times: 1,
@@ -180,6 +211,7 @@ pub static CASES: [Case; 70] = [
         verdict: Verdict::Refused(2, 2),
     },
     Case {
+        under: Under::Sql,
         name: "an at-sign at the end of a text",
         row: b"'ab@",
         times: 1,
@@ -187,6 +219,7 @@ pub static CASES: [Case; 70] = [
         verdict: Verdict::Refused(2, 3),
     },
     Case {
+        under: Under::Sql,
         name: "an at-sign before a letter",
         row: b"@x",
         times: 1,
@@ -194,6 +227,7 @@ pub static CASES: [Case; 70] = [
         verdict: Verdict::Refused(2, 0),
     },
     Case {
+        under: Under::Sql,
         name: "an at-sign before a capital N",
         row: b"@N",
         times: 1,
@@ -201,6 +235,7 @@ pub static CASES: [Case; 70] = [
         verdict: Verdict::Refused(2, 0),
     },
     Case {
+        under: Under::Sql,
         name: "an at-sign before a blank",
         row: b"a @ b",
         times: 1,
@@ -208,6 +243,7 @@ pub static CASES: [Case; 70] = [
         verdict: Verdict::Refused(2, 2),
     },
     Case {
+        under: Under::Sql,
         name: "an at-sign before a closing brace",
         row: b"a,@}",
         times: 1,
@@ -215,6 +251,7 @@ pub static CASES: [Case; 70] = [
         verdict: Verdict::Refused(2, 2),
     },
     Case {
+        under: Under::Sql,
         name: "a brace at the end",
         row: b"@{",
         times: 1,
@@ -222,6 +259,7 @@ pub static CASES: [Case; 70] = [
         verdict: Verdict::Refused(3, 2),
     },
     Case {
+        under: Under::Sql,
         name: "an empty name",
         row: b"@{}",
         times: 1,
@@ -229,6 +267,7 @@ pub static CASES: [Case; 70] = [
         verdict: Verdict::Refused(3, 2),
     },
     Case {
+        under: Under::Sql,
         name: "a name that the end cuts",
         row: b"@{a",
         times: 1,
@@ -236,6 +275,7 @@ pub static CASES: [Case; 70] = [
         verdict: Verdict::Refused(3, 3),
     },
     Case {
+        under: Under::Sql,
         name: "a name of sixteen bytes that the end cuts",
         row: b"@{abcdefghijklmnop",
         times: 1,
@@ -243,6 +283,7 @@ pub static CASES: [Case; 70] = [
         verdict: Verdict::Refused(3, 18),
     },
     Case {
+        under: Under::Sql,
         name: "a name of seventeen bytes",
         row: b"@{abcdefghijklmnopq}",
         times: 1,
@@ -250,6 +291,7 @@ pub static CASES: [Case; 70] = [
         verdict: Verdict::Refused(3, 18),
     },
     Case {
+        under: Under::Sql,
         name: "sixteen bytes, then an underscore",
         row: b"@{abcdefghijklmnop_}",
         times: 1,
@@ -257,6 +299,7 @@ pub static CASES: [Case; 70] = [
         verdict: Verdict::Refused(3, 18),
     },
     Case {
+        under: Under::Sql,
         name: "a digit first",
         row: b"@{1}",
         times: 1,
@@ -264,6 +307,7 @@ pub static CASES: [Case; 70] = [
         verdict: Verdict::Refused(3, 2),
     },
     Case {
+        under: Under::Sql,
         name: "an underscore first",
         row: b"@{_a}",
         times: 1,
@@ -271,6 +315,7 @@ pub static CASES: [Case; 70] = [
         verdict: Verdict::Refused(3, 2),
     },
     Case {
+        under: Under::Sql,
         name: "a capital letter in a name",
         row: b"@{aB}",
         times: 1,
@@ -278,6 +323,7 @@ pub static CASES: [Case; 70] = [
         verdict: Verdict::Refused(3, 3),
     },
     Case {
+        under: Under::Sql,
         name: "a blank in a name",
         row: b"@{a b}",
         times: 1,
@@ -285,6 +331,7 @@ pub static CASES: [Case; 70] = [
         verdict: Verdict::Refused(3, 3),
     },
     Case {
+        under: Under::Sql,
         name: "an at-sign in a name",
         row: b"@{a@{b}}",
         times: 1,
@@ -292,6 +339,7 @@ pub static CASES: [Case; 70] = [
         verdict: Verdict::Refused(3, 3),
     },
     Case {
+        under: Under::Sql,
         name: "a second hole with a bad name, where none is taken",
         row: b"@{a}@{B}",
         times: 1,
@@ -299,6 +347,7 @@ pub static CASES: [Case; 70] = [
         verdict: Verdict::Refused(3, 6),
     },
     Case {
+        under: Under::Sql,
         name: "65 holes",
         row: b"@{a},",
         times: 65,
@@ -306,6 +355,7 @@ pub static CASES: [Case; 70] = [
         verdict: Verdict::Refused(5, 320),
     },
     Case {
+        under: Under::Sql,
         name: "the 65th hole where none is taken",
         row: b"@{a},",
         times: 64,
@@ -313,6 +363,7 @@ pub static CASES: [Case; 70] = [
         verdict: Verdict::Refused(5, 321),
     },
     Case {
+        under: Under::Sql,
         name: "the 65th hole with a bad name",
         row: b"@{a},",
         times: 64,
@@ -320,6 +371,7 @@ pub static CASES: [Case; 70] = [
         verdict: Verdict::Refused(3, 322),
     },
     Case {
+        under: Under::Sql,
         name: "the 65th hole after a refused byte",
         row: b"@{a},",
         times: 64,
@@ -327,6 +379,7 @@ pub static CASES: [Case; 70] = [
         verdict: Verdict::Refused(6, 320),
     },
     Case {
+        under: Under::Sql,
         name: "a minus sign",
         row: b"-",
         times: 1,
@@ -334,6 +387,7 @@ pub static CASES: [Case; 70] = [
         verdict: Verdict::Refused(6, 0),
     },
     Case {
+        under: Under::Sql,
         name: "a minus sign between words",
         row: b"a - b",
         times: 1,
@@ -341,6 +395,7 @@ pub static CASES: [Case; 70] = [
         verdict: Verdict::Refused(6, 2),
     },
     Case {
+        under: Under::Sql,
         name: "a quote in a word",
         row: b"a'",
         times: 1,
@@ -348,6 +403,7 @@ pub static CASES: [Case; 70] = [
         verdict: Verdict::Refused(6, 1),
     },
     Case {
+        under: Under::Sql,
         name: "a double quote after a word",
         row: b"a\"",
         times: 1,
@@ -355,6 +411,7 @@ pub static CASES: [Case; 70] = [
         verdict: Verdict::Refused(6, 1),
     },
     Case {
+        under: Under::Sql,
         name: "a double quote after a text",
         row: b"'a'\"",
         times: 1,
@@ -362,6 +419,7 @@ pub static CASES: [Case; 70] = [
         verdict: Verdict::Refused(6, 3),
     },
     Case {
+        under: Under::Sql,
         name: "a byte after a hole",
         row: b"@{a}-",
         times: 1,
@@ -369,6 +427,7 @@ pub static CASES: [Case; 70] = [
         verdict: Verdict::Refused(6, 4),
     },
     Case {
+        under: Under::Sql,
         name: "a word after a hole, then a bad byte",
         row: b"@{a}b/",
         times: 1,
@@ -376,6 +435,7 @@ pub static CASES: [Case; 70] = [
         verdict: Verdict::Refused(6, 5),
     },
     Case {
+        under: Under::Sql,
         name: "an escape before the refused byte",
         row: b"@n-",
         times: 1,
@@ -383,6 +443,7 @@ pub static CASES: [Case; 70] = [
         verdict: Verdict::Refused(6, 2),
     },
     Case {
+        under: Under::Sql,
         name: "an escaped at-sign in a gap",
         row: b"a,@@",
         times: 1,
@@ -390,6 +451,7 @@ pub static CASES: [Case; 70] = [
         verdict: Verdict::Refused(6, 2),
     },
     Case {
+        under: Under::Sql,
         name: "byte 00 in a gap",
         row: b"\x00",
         times: 1,
@@ -397,6 +459,7 @@ pub static CASES: [Case; 70] = [
         verdict: Verdict::Refused(6, 0),
     },
     Case {
+        under: Under::Sql,
         name: "byte 00 in a text",
         row: b"'\x00'",
         times: 1,
@@ -404,6 +467,7 @@ pub static CASES: [Case; 70] = [
         verdict: Verdict::Refused(6, 1),
     },
     Case {
+        under: Under::Sql,
         name: "byte 00 after a quote",
         row: b"'a'\x00",
         times: 1,
@@ -411,6 +475,7 @@ pub static CASES: [Case; 70] = [
         verdict: Verdict::Refused(6, 3),
     },
     Case {
+        under: Under::Sql,
         name: "a byte above 7F in a gap",
         row: b"\xc3",
         times: 1,
@@ -418,6 +483,7 @@ pub static CASES: [Case; 70] = [
         verdict: Verdict::Refused(6, 0),
     },
     Case {
+        under: Under::Sql,
         name: "a hole in a word",
         row: b"a@{b}",
         times: 1,
@@ -425,6 +491,7 @@ pub static CASES: [Case; 70] = [
         verdict: Verdict::Refused(7, 1),
     },
     Case {
+        under: Under::Sql,
         name: "a hole after a hole",
         row: b"@{a}@{b}",
         times: 1,
@@ -432,6 +499,7 @@ pub static CASES: [Case; 70] = [
         verdict: Verdict::Refused(7, 4),
     },
     Case {
+        under: Under::Sql,
         name: "a hole after a text",
         row: b"'x'@{a}",
         times: 1,
@@ -439,6 +507,7 @@ pub static CASES: [Case; 70] = [
         verdict: Verdict::Refused(7, 3),
     },
     Case {
+        under: Under::Sql,
         name: "a hole after a number",
         row: b"1,2@{a}",
         times: 1,
@@ -446,6 +515,7 @@ pub static CASES: [Case; 70] = [
         verdict: Verdict::Refused(7, 3),
     },
     Case {
+        under: Under::Sql,
         name: "an open text",
         row: b"'",
         times: 1,
@@ -453,6 +523,7 @@ pub static CASES: [Case; 70] = [
         verdict: Verdict::Refused(8, 1),
     },
     Case {
+        under: Under::Sql,
         name: "an open text with bytes",
         row: b"'abc",
         times: 1,
@@ -460,6 +531,7 @@ pub static CASES: [Case; 70] = [
         verdict: Verdict::Refused(8, 4),
     },
     Case {
+        under: Under::Sql,
         name: "an open text that ends in a hole",
         row: b"'@{a}",
         times: 1,
@@ -467,6 +539,7 @@ pub static CASES: [Case; 70] = [
         verdict: Verdict::Refused(8, 5),
     },
     Case {
+        under: Under::Sql,
         name: "an open text that ends in an escape",
         row: b"'@n",
         times: 1,
@@ -474,6 +547,7 @@ pub static CASES: [Case; 70] = [
         verdict: Verdict::Refused(8, 3),
     },
     Case {
+        under: Under::Sql,
         name: "a quote after a hole opens its text again",
         row: b"@{a}'",
         times: 1,
@@ -481,6 +555,7 @@ pub static CASES: [Case; 70] = [
         verdict: Verdict::Refused(8, 5),
     },
     Case {
+        under: Under::Sql,
         name: "a refused byte before a stray at-sign",
         row: b"a-@x",
         times: 1,
@@ -488,6 +563,7 @@ pub static CASES: [Case; 70] = [
         verdict: Verdict::Refused(6, 1),
     },
     Case {
+        under: Under::Sql,
         name: "a stray at-sign before a refused byte",
         row: b"@x-",
         times: 1,
@@ -495,6 +571,7 @@ pub static CASES: [Case; 70] = [
         verdict: Verdict::Refused(2, 0),
     },
     Case {
+        under: Under::Sql,
         name: "a bad name before an open end",
         row: b"'@{A}",
         times: 1,
@@ -502,10 +579,353 @@ pub static CASES: [Case; 70] = [
         verdict: Verdict::Refused(3, 3),
     },
     Case {
+        under: Under::Sql,
         name: "a hole that is not taken before a refused byte",
         row: b"a@{b}-",
         times: 1,
         rest: b"",
         verdict: Verdict::Refused(7, 1),
+    },
+];
+
+pub static SHELL_CASES: [Case; 23] = [
+    Case {
+        under: Under::Shell,
+        name: "the empty template in shell",
+        row: b"",
+        times: 1,
+        rest: b"",
+        verdict: Verdict::Holes(0, 4),
+    },
+    Case {
+        under: Under::Shell,
+        name: "a hole in a gap",
+        row: b"echo @{a}",
+        times: 1,
+        rest: b"",
+        verdict: Verdict::Holes(1, 4),
+    },
+    Case {
+        under: Under::Shell,
+        name: "a hole in a word",
+        row: b"a@{b}c",
+        times: 1,
+        rest: b"",
+        verdict: Verdict::Holes(1, 4),
+    },
+    Case {
+        under: Under::Shell,
+        name: "a hole after a hole is in its word",
+        row: b"@{a}@{b}",
+        times: 1,
+        rest: b"",
+        verdict: Verdict::Holes(2, 4),
+    },
+    Case {
+        under: Under::Shell,
+        name: "a hole between single quotes",
+        row: b"'@{a}'",
+        times: 1,
+        rest: b"",
+        verdict: Verdict::Holes(1, 4),
+    },
+    Case {
+        under: Under::Shell,
+        name: "a hole between double quotes",
+        row: b"\"@{a}\"",
+        times: 1,
+        rest: b"",
+        verdict: Verdict::Holes(1, 5),
+    },
+    Case {
+        under: Under::Shell,
+        name: "an escaped at-sign in a word",
+        row: b"a@@b",
+        times: 1,
+        rest: b"",
+        verdict: Verdict::Holes(0, 4),
+    },
+    Case {
+        under: Under::Shell,
+        name: "a carriage return between quotes",
+        row: b"'@r'",
+        times: 1,
+        rest: b"",
+        verdict: Verdict::Holes(0, 4),
+    },
+    Case {
+        under: Under::Shell,
+        name: "64 holes in shell",
+        row: b"@{a}",
+        times: 64,
+        rest: b"",
+        verdict: Verdict::Holes(64, 4),
+    },
+    Case {
+        under: Under::Shell,
+        name: "65 holes in shell",
+        row: b"@{a}",
+        times: 65,
+        rest: b"",
+        verdict: Verdict::Refused(5, 256),
+    },
+    Case {
+        under: Under::Shell,
+        name: "3,584 bytes in shell",
+        row: b"a",
+        times: 3584,
+        rest: b"",
+        verdict: Verdict::Holes(0, 4),
+    },
+    Case {
+        under: Under::Shell,
+        name: "3,585 bytes in shell",
+        row: b"a",
+        times: 3585,
+        rest: b"",
+        verdict: Verdict::Refused(1, 3584),
+    },
+    Case {
+        under: Under::Shell,
+        name: "a dollar sign",
+        row: b"a $b",
+        times: 1,
+        rest: b"",
+        verdict: Verdict::Refused(6, 2),
+    },
+    Case {
+        under: Under::Shell,
+        name: "a dollar sign between double quotes",
+        row: b"\"$b\"",
+        times: 1,
+        rest: b"",
+        verdict: Verdict::Refused(6, 1),
+    },
+    Case {
+        under: Under::Shell,
+        name: "a hash where a word begins",
+        row: b"a #b",
+        times: 1,
+        rest: b"",
+        verdict: Verdict::Refused(6, 2),
+    },
+    Case {
+        under: Under::Shell,
+        name: "a carriage return in a gap",
+        row: b"a @r",
+        times: 1,
+        rest: b"",
+        verdict: Verdict::Refused(6, 2),
+    },
+    Case {
+        under: Under::Shell,
+        name: "byte 00 between quotes",
+        row: b"'\x00'",
+        times: 1,
+        rest: b"",
+        verdict: Verdict::Refused(6, 1),
+    },
+    Case {
+        under: Under::Shell,
+        name: "a hole after a backslash in a gap",
+        row: b"\\@{a}",
+        times: 1,
+        rest: b"",
+        verdict: Verdict::Refused(7, 1),
+    },
+    Case {
+        under: Under::Shell,
+        name: "a hole after a backslash in a word",
+        row: b"a\\@{a}",
+        times: 1,
+        rest: b"",
+        verdict: Verdict::Refused(7, 2),
+    },
+    Case {
+        under: Under::Shell,
+        name: "a hole after a backslash between double quotes",
+        row: b"\"\\@{a}\"",
+        times: 1,
+        rest: b"",
+        verdict: Verdict::Refused(7, 2),
+    },
+    Case {
+        under: Under::Shell,
+        name: "an open single quote",
+        row: b"a '",
+        times: 1,
+        rest: b"",
+        verdict: Verdict::Refused(8, 3),
+    },
+    Case {
+        under: Under::Shell,
+        name: "an open double quote",
+        row: b"\"a@{b}",
+        times: 1,
+        rest: b"",
+        verdict: Verdict::Refused(8, 6),
+    },
+    Case {
+        under: Under::Shell,
+        name: "a backslash at the end",
+        row: b"a\\",
+        times: 1,
+        rest: b"",
+        verdict: Verdict::Refused(8, 2),
+    },
+];
+
+pub static CSV_CASES: [Case; 19] = [
+    Case {
+        under: Under::Csv,
+        name: "the empty template in CSV",
+        row: b"",
+        times: 1,
+        rest: b"",
+        verdict: Verdict::Holes(0, 3),
+    },
+    Case {
+        under: Under::Csv,
+        name: "a hole where a row starts",
+        row: b"@{v}",
+        times: 1,
+        rest: b"",
+        verdict: Verdict::Holes(1, 3),
+    },
+    Case {
+        under: Under::Csv,
+        name: "a hole where a field starts",
+        row: b"a,@{v}",
+        times: 1,
+        rest: b"",
+        verdict: Verdict::Holes(1, 3),
+    },
+    Case {
+        under: Under::Csv,
+        name: "a hole in a bare field",
+        row: b"a@{v}",
+        times: 1,
+        rest: b"",
+        verdict: Verdict::Holes(1, 2),
+    },
+    Case {
+        under: Under::Csv,
+        name: "a hole in a quoted field",
+        row: b"\"a@{v}\"",
+        times: 1,
+        rest: b"",
+        verdict: Verdict::Holes(1, 3),
+    },
+    Case {
+        under: Under::Csv,
+        name: "a row and its line end",
+        row: b"a,b@r@n",
+        times: 1,
+        rest: b"",
+        verdict: Verdict::Holes(0, 3),
+    },
+    Case {
+        under: Under::Csv,
+        name: "64 holes in CSV",
+        row: b"@{a},",
+        times: 64,
+        rest: b"",
+        verdict: Verdict::Holes(64, 3),
+    },
+    Case {
+        under: Under::Csv,
+        name: "65 holes in CSV",
+        row: b"@{a},",
+        times: 65,
+        rest: b"",
+        verdict: Verdict::Refused(5, 320),
+    },
+    Case {
+        under: Under::Csv,
+        name: "a byte after a hole that brings its quotes",
+        row: b"@{v}a",
+        times: 1,
+        rest: b"",
+        verdict: Verdict::Refused(6, 4),
+    },
+    Case {
+        under: Under::Csv,
+        name: "a hole after a hole that brings its quotes",
+        row: b"@{v}@{w}",
+        times: 1,
+        rest: b"",
+        verdict: Verdict::Refused(7, 4),
+    },
+    Case {
+        under: Under::Csv,
+        name: "a quote in a bare field",
+        row: b"a\"",
+        times: 1,
+        rest: b"",
+        verdict: Verdict::Refused(6, 1),
+    },
+    Case {
+        under: Under::Csv,
+        name: "a byte after a closing quote",
+        row: b"\"a\"b",
+        times: 1,
+        rest: b"",
+        verdict: Verdict::Refused(6, 3),
+    },
+    Case {
+        under: Under::Csv,
+        name: "a line feed alone",
+        row: b"a@n",
+        times: 1,
+        rest: b"",
+        verdict: Verdict::Refused(6, 1),
+    },
+    Case {
+        under: Under::Csv,
+        name: "a byte after a carriage return",
+        row: b"a@rb",
+        times: 1,
+        rest: b"",
+        verdict: Verdict::Refused(6, 3),
+    },
+    Case {
+        under: Under::Csv,
+        name: "a hole after a carriage return",
+        row: b"@r@{v}",
+        times: 1,
+        rest: b"",
+        verdict: Verdict::Refused(7, 2),
+    },
+    Case {
+        under: Under::Csv,
+        name: "a carriage return at the end",
+        row: b"a@r",
+        times: 1,
+        rest: b"",
+        verdict: Verdict::Refused(8, 3),
+    },
+    Case {
+        under: Under::Csv,
+        name: "a tab",
+        row: b"a\x09b",
+        times: 1,
+        rest: b"",
+        verdict: Verdict::Refused(6, 1),
+    },
+    Case {
+        under: Under::Csv,
+        name: "a byte above 7E",
+        row: b"a\x7f",
+        times: 1,
+        rest: b"",
+        verdict: Verdict::Refused(6, 1),
+    },
+    Case {
+        under: Under::Csv,
+        name: "an open quoted field",
+        row: b"\"a@{v}",
+        times: 1,
+        rest: b"",
+        verdict: Verdict::Refused(8, 6),
     },
 ];

@@ -1,10 +1,17 @@
-// Templates under SQL with the verdicts that the rules give them, worked out by hand.
+// Templates under each host with the verdicts that the rules give them, worked out by hand.
 mod cases;
 
-use cases::CASES;
+use cases::CSV_CASES;
 use cases::Case;
+use cases::SHELL_CASES;
+use cases::SQL_CASES;
+use cases::Under;
 use cases::Verdict;
-use fault::FaultDisplay;
+use csv::Csv;
+use csv::CsvHost;
+use host::Host;
+use shell::Shell;
+use shell::ShellHost;
 use sql::Sql;
 use sql::SqlHost;
 use std::alloc::AllocError;
@@ -24,14 +31,14 @@ fn template_of(heap: Global, case: &Case) -> Result<Vec<u8>, AllocError> {
     Ok(template)
 }
 
-// Whether `check` and `survey` say what the case expects.
-fn stands(case: &Case, template: &[u8]) -> bool {
-    let checked = check(Raw::new(template), &Sql);
-    let surveyed = survey(template, &Sql);
-    match (case.verdict, checked, surveyed) {
-        (Verdict::Holes(count), Ok(checked), Ok(survey)) => {
+// Whether `check` and `survey` say what is expected.
+fn stands<H: Host>(host: &H, verdict: Verdict, template: &[u8]) -> bool {
+    let checked = check(Raw::new(template), host);
+    let surveyed = survey(template, host);
+    match (verdict, checked, surveyed) {
+        (Verdict::Holes(count, body), Ok(checked), Ok(survey)) => {
             let bodies = &survey.bodies[0..survey.holes];
-            checked.holes() == count && bodies.len() == count && all_in_texts(bodies)
+            checked.holes() == count && bodies.len() == count && all_are(bodies, body)
         }
         (Verdict::Refused(number, place), Err(fault), Err(flaw)) => {
             fault.number() == number
@@ -44,29 +51,43 @@ fn stands(case: &Case, template: &[u8]) -> bool {
     }
 }
 
-// In SQL every value is read in the context of a text, 2.
-fn all_in_texts(bodies: &[u8]) -> bool {
-    for body in bodies {
-        if *body != 2 {
+fn all_are(bodies: &[u8], body: u8) -> bool {
+    for found in bodies {
+        if *found != body {
             return false;
         }
     }
     true
 }
 
-fn main(rt: LibcRuntime) -> Result<(), AnyError> {
-    let mut wrong = 0u64;
-    for case in &CASES {
+// Runs the cases, prints whether each came out as expected, and answers how many did not.
+fn run(rt: &LibcRuntime, cases: &[Case]) -> Result<usize, AnyError> {
+    let mut wrong = 0usize;
+    for case in cases {
         let template = template_of(rt.alloc(), case)?;
+        let right = match case.under {
+            Under::Shell => stands(&Shell, case.verdict, template.as_slice()),
+            Under::Sql => stands(&Sql, case.verdict, template.as_slice()),
+            Under::Csv => stands(&Csv, case.verdict, template.as_slice()),
+        };
         let name = case.name;
-        if stands(case, template.as_slice()) {
+        if right {
             println!(rt, "as expected: {name}")?;
         } else {
             println!(rt, "WRONG: {name}")?;
             wrong = wrong.saturating_add(1);
         }
     }
-    println!(rt, "{} cases, {wrong} wrong", CASES.len())?;
+    Ok(wrong)
+}
+
+fn main(rt: LibcRuntime) -> Result<(), AnyError> {
+    let in_sql = run(&rt, &SQL_CASES)?;
+    let in_shell = run(&rt, &SHELL_CASES)?;
+    let in_csv = run(&rt, &CSV_CASES)?;
+    let wrong = in_sql.saturating_add(in_shell).saturating_add(in_csv);
+    let count = SQL_CASES.len() + SHELL_CASES.len() + CSV_CASES.len();
+    println!(rt, "{count} cases, {wrong} wrong")?;
     if wrong > 0 {
         return Err("a verdict is wrong".into());
     }
