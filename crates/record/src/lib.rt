@@ -1,11 +1,11 @@
 // Records of pairs of a name and a value, as fields of a tag, a length and bytes.
 ghost use mathlib.Core.Path.{_≡_};
 ghost use mathlib.Core.List.{List};
-ghost use Prim.Native.Nat.{ℕ};
-ghost use lib.ListN.{length};
-ghost use Rattle.record.specs.Answers.{answer, Within};
+ghost use Prim.Native.Nat.{ℕ, _+_, _^_, _<_};
+ghost use lib.ListN.{length, take};
+ghost use Rattle.record.specs.Answers.{answer, pairs-of, Within};
 ghost use Rattle.record.specs.Law.{Law};
-ghost use Rattle.record.specs.Reading.{read-at, none, faulty};
+ghost use Rattle.record.specs.Reading.{read-at, found, none, faulty};
 
 mod field;
 pub mod promise;
@@ -62,17 +62,29 @@ fn nothing() -> shape::Record
     blank(State::End, Fault::FieldCutShort { place: 0 })
 }
 
+// The first `count` entries, and the end tag at `end`.
+fn found(entries: [Entry; MOST], count: usize, end: usize) -> shape::Record
+    requires { ⌜ end + 3 < 2 ^ 64 ⌝ }
+    ensures answers { λ r. ⌜ ((input : List ℕ) → answer input r ≡ found (pairs-of input (take count entries)) end (end + 3)) ⌝ }
+    ensures count { λ r. ⌜ r .count ≡ count ⌝ }
+    ensures entries { λ r. ⌜ r .entries ≡ entries ⌝ }
+{
+    shape::Record {
+        state: State::Found,
+        count,
+        entries,
+        end,
+        next: end + 3,
+        fault: Fault::FieldCutShort { place: end },
+    }
+}
+
 // Reads pair after pair, each a name and a value, until the end.
 fn read_pairs(input: &[u8], place: usize) -> shape::Record
+    requires { ⌜ place < length (now input) ⌝ }
     ensures reads { λ r. ⌜ answer (now (input .entry)) r ≡ read-at (now (input .entry)) place ⌝ }
     ensures within { λ r. ⌜ Within (length (now (input .entry))) r ⌝ }
 {
-    if place > input.len() {
-        return refused(Fault::FieldCutShort { place: input.len() });
-    }
-    if place == input.len() {
-        return nothing();
-    }
     let mut entries = [BLANK; MOST];
     let mut count = 0;
     let mut at = place;
@@ -101,19 +113,24 @@ fn read_pairs(input: &[u8], place: usize) -> shape::Record
                     Value::Refused(fault) => return refused(fault),
                 }
             }
-            Head::End => {
-                return shape::Record {
-                    state: State::Found,
-                    count,
-                    entries,
-                    end: at,
-                    next: at + 3,
-                    fault: Fault::FieldCutShort { place: at },
-                };
-            }
+            Head::End => return found(entries, count, at),
             Head::Refused(fault) => return refused(fault),
         }
     }
+}
+
+// What stands at a place of the input.
+fn read_from(input: &[u8], place: usize) -> shape::Record
+    ensures reads { λ r. ⌜ answer (now (input .entry)) r ≡ read-at (now (input .entry)) place ⌝ }
+    ensures within { λ r. ⌜ Within (length (now (input .entry))) r ⌝ }
+{
+    if place > input.len() {
+        return refused(Fault::FieldCutShort { place: input.len() });
+    }
+    if place == input.len() {
+        return nothing();
+    }
+    read_pairs(input, place)
 }
 
 // The record at a place of the input: its pairs, or that the input ends there, or why it is refused.
@@ -122,5 +139,5 @@ pub fn record(input: &[u8], place: usize) -> shape::Record
     ensures within { λ r. ⌜ Within (length (now (input .entry))) r ⌝ }
     ensures law { λ r. ⌜ Law (now (input .entry)) place (answer (now (input .entry)) r) ⌝ }
 {
-    read_pairs(input, place)
+    read_from(input, place)
 }

@@ -7,8 +7,25 @@ use record::writer::Unwritten;
 use record::writer::write_record;
 use std::error::AnyError;
 
-// A value of 161 bytes.
-const LONG: &[u8; 161] = &[0; 161];
+const HI: Pair<'static> = Pair {
+    name: b"a",
+    value: b"hi",
+};
+
+const EMPTY: Pair<'static> = Pair {
+    name: b"b_2",
+    value: b"",
+};
+
+const BAD: Pair<'static> = Pair {
+    name: b"A",
+    value: b"",
+};
+
+const LONG: Pair<'static> = Pair {
+    name: b"cd",
+    value: &[0; 161],
+};
 
 // Whether the writer refuses the pairs after two bytes with this number and place, and leaves the file as it was.
 fn refuses(
@@ -26,43 +43,18 @@ fn refuses(
 }
 
 pub fn run_written(rt: &LibcRuntime, tally: &mut Tally) -> Result<(), AnyError> {
-    let a = Pair {
-        name: b"a",
-        value: b"hi",
-    };
-    let b = Pair {
-        name: b"b_2",
-        value: b"",
-    };
     let mut file = b"..".to_vec(rt.alloc())?;
-    let written = write_record(&mut file, &[a, b]).is_ok();
+    let written = write_record(&mut file, &[HI, EMPTY]).is_ok();
     let bytes = b"..\x01\x00\x01a\x02\x00\x02hi\x01\x00\x03b_2\x02\x00\x00\x03\x00\x00";
     let right = written
         && file.as_slice() == bytes
         && stands(file.as_slice(), 2, Expected::Found(2, 20, 23));
     tally.tell(rt, "written and read back", right)?;
-    let bad = Pair {
-        name: b"A",
-        value: b"",
-    };
-    tally.tell(
-        rt,
-        "the writer refuses a bad name",
-        refuses(rt, &[a, bad], 23, 11)?,
-    )?;
-    let long = Pair {
-        name: b"cd",
-        value: LONG,
-    };
-    tally.tell(
-        rt,
-        "the writer refuses a long value",
-        refuses(rt, &[a, long], 24, 16)?,
-    )?;
-    tally.tell(
-        rt,
-        "the writer refuses a name twice",
-        refuses(rt, &[a, b, a], 26, 20)?,
-    )?;
+    let right = refuses(rt, &[HI, BAD], 23, 11)?;
+    tally.tell(rt, "the writer refuses a bad name", right)?;
+    let right = refuses(rt, &[HI, LONG], 24, 16)?;
+    tally.tell(rt, "the writer refuses a long value", right)?;
+    let right = refuses(rt, &[HI, EMPTY, HI], 26, 20)?;
+    tally.tell(rt, "the writer refuses a name twice", right)?;
     Ok(())
 }
