@@ -1,5 +1,7 @@
 // Cases of the rules that take a template all the way, from its check to its text, with answers worked out by hand. The
 // same cases, where they are small, are a theorem about the definitions: see `promise`.
+#![tactic(auto)]
+
 mod answer;
 mod checked;
 mod filled;

@@ -1,4 +1,6 @@
 // CSV as a host: fields between commas, and rows between line ends.
+#![tactic(auto)]
+
 ghost use Rattle.std.specs.Prelude.{◌≡◌, refl};
 ghost use Rattle.host.specs.Answers.{answered, spelling_of};
 ghost use Rattle.host.specs.Table.{in_class, stepped, spelled_by};

@@ -1,4 +1,6 @@
 // The program: it reads files, calls the libraries and prints what they answer.
+#![tactic(auto)]
+
 mod check;
 mod command;
 mod filling;

@@ -1,4 +1,6 @@
 // Merging: a record of the input is filled into a template, and the text is printed.
+#![tactic(auto)]
+
 ghost use Rattle.std.specs.Prelude.{◌≡◌, length, take, IfOk};
 ghost use Rattle.template.specs.Judging.{verdict, survey_of};
 ghost use Rattle.template.specs.Lexing.{lexed_from};

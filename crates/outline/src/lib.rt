@@ -1,4 +1,6 @@
 // How a host reads a template: what it meets item by item, and the tokens that it comes to.
+#![tactic(auto)]
+
 mod run;
 pub mod token;
 pub mod untold;

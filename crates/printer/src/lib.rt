@@ -1,4 +1,6 @@
 // Filling the holes of a template on a sheet, and printing the text.
+#![tactic(auto)]
+
 pub mod bind;
 pub mod filling;
 pub mod finished;

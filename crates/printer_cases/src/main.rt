@@ -1,4 +1,6 @@
 // Fillings of templates under the three hosts, with the answers that the rules give them, worked out by hand.
+#![tactic(auto)]
+
 mod answer;
 mod binding;
 mod crossing;

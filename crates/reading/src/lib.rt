@@ -1,4 +1,6 @@
 // The reading of a text, listed as fields: the kind of each token as a tag, then its bytes.
+#![tactic(auto)]
+
 ghost use Rattle.std.specs.Prelude.{◌≡◌, ◌≤◌, length};
 ghost use Rattle.fault.specs.Refusal.{told};
 ghost use Rattle.reading.specs.Listing.{listing, result, output, RefusedRightly};

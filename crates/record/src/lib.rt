@@ -1,4 +1,6 @@
 // Records of pairs of a name and a value, as fields of a tag, a length and bytes.
+#![tactic(auto)]
+
 ghost use Rattle.std.specs.Prelude.{◌≡◌, ℕ, ◌+◌, ◌^◌, ◌<◌, List, length, take};
 ghost use Rattle.record.specs.Answers.{answer, pairs_of, Within};
 ghost use Rattle.record.specs.Law.{Law};

@@ -1,4 +1,6 @@
 // Records with the answers that the rules give them, worked out by hand.
+#![tactic(auto)]
+
 mod built;
 mod cases;
 mod looked_up;

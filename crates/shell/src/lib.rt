@@ -1,4 +1,6 @@
 // The shell as a host: words with their quotes and escapes, and operators.
+#![tactic(auto)]
+
 ghost use Rattle.std.specs.Prelude.{◌≡◌, refl};
 ghost use Rattle.host.specs.Answers.{answered, spelling_of};
 ghost use Rattle.host.specs.Table.{in_class, stepped, spelled_by};

@@ -1,4 +1,6 @@
 // Runs the vectors of each host: texts with their tokens, worked out by hand from the standards, in data/.
+#![tactic(auto)]
+
 mod line;
 mod vector;
 

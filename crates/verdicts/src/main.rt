@@ -1,4 +1,6 @@
 // Templates under each host with the verdicts that the rules give them, worked out by hand.
+#![tactic(auto)]
+
 mod cases;
 
 use anyhow::anyhow;
