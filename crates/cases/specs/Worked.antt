@@ -11,7 +11,7 @@ use Rattle.record.specs.Format.{packed}
 use Rattle.merge.specs.Merging.{merged}
 use Rattle.shell.specs.Table.{shell}
 use Rattle.sql.specs.Table.{sql}
-use Rattle.csv.specs.Table.{csv}
+use Rattle.csv_host.specs.Table.{csv}
 
 -- A token of some kind that holds these bytes.
 abbrev pub token : ℕ → List ℕ → Token

@@ -3,7 +3,7 @@ use crate::Tally;
 use crate::answer::Answer;
 use crate::shown::Quoted;
 use crate::under::Under;
-use csv::Csv;
+use csv_host::Csv;
 use fault::{Fault, Flaw};
 use shell::Shell;
 use sql::Sql;

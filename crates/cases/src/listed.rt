@@ -3,7 +3,7 @@ use crate::Tally;
 use crate::answer::{Answer, UNTOUCHED, written};
 use crate::shown::Quoted;
 use crate::under::Under;
-use csv::Csv;
+use csv_host::Csv;
 use fault::Fault;
 use reading::list;
 use shell::Shell;

@@ -16,7 +16,7 @@ mod working;
 use anyhow::anyhow;
 use check::check_template;
 use command::{Action, Job, job_asked};
-use csv::Csv;
+use csv_host::Csv;
 use filling::fill_template;
 use host::Host;
 use listing::{list_raw, list_text};

@@ -41,7 +41,7 @@ fn bind_named<H: Host>(
     hole: usize,
     name: &[u8],
 ) -> Result<(), Fault>
-    ensures came { came_to result (state_of filling.new sheet.new.table) ≡ bind_named_lem (meaning sheet.old.host) (survey_of survey.now) found.now.end (state_of filling.old sheet.old.table) hole (value_of name.now (record_pairs input.now found.now)) }
+    ensures came { came_to result (state_of filling.new sheet.new.table) ≡ bind_named_lem (H.meaning sheet.old.host) (survey_of survey.now) found.now.end (state_of filling.old sheet.old.table) hole (value_of name.now (record_pairs input.now found.now)) }
     ensures host { sheet.new.host ≡ sheet.old.host }
     ensures template { filling.new.template ≡ filling.old.template }
 {
@@ -64,7 +64,7 @@ fn bind_all<H: Host>(
     input: &[u8],
     found: &Record,
 ) -> Result<(), Fault>
-    ensures came { came_to result (state_of filling.new sheet.new.table) ≡ bind_pieces (meaning sheet.old.host) (survey_of survey.now) (record_pairs input.now found.now) found.now.end (state_of filling.old sheet.old.table) 0 (lexed_from template.now 0) }
+    ensures came { came_to result (state_of filling.new sheet.new.table) ≡ bind_pieces (H.meaning sheet.old.host) (survey_of survey.now) (record_pairs input.now found.now) found.now.end (state_of filling.old sheet.old.table) 0 (lexed_from template.now 0) }
     ensures host { sheet.new.host ≡ sheet.old.host }
     ensures template { filling.new.template ≡ filling.old.template }
 {
@@ -98,10 +98,10 @@ fn fill_in<H: Host>(
     found: &Record,
     out: &mut [u8],
 ) -> Result<Merged, Fault>
-    requires survey { verdict (meaning sheet.old.host) checked.template.now ≡ survey_of survey.now }
+    requires survey { verdict (H.meaning sheet.old.host) checked.template.now ≡ survey_of survey.now }
     requires holes { checked.holes ≡ survey.now.holes }
-    ensures answer { completed_of result ≡ weighed_one (with_pairs (meaning sheet.old.host) (survey_of survey.now) checked.entry.template.now survey.now.holes (length out.old) (record_pairs input.now found.now) found.now.end found.now.next) }
-    ensures text { out.new ≡ laid_over out.old (with_pairs (meaning sheet.old.host) (survey_of survey.now) checked.entry.template.now survey.now.holes (length out.old) (record_pairs input.now found.now) found.now.end found.now.next) }
+    ensures answer { completed_of result ≡ weighed_one (with_pairs (H.meaning sheet.old.host) (survey_of survey.now) checked.entry.template.now survey.now.holes (length out.old) (record_pairs input.now found.now) found.now.end found.now.next) }
+    ensures text { out.new ≡ laid_over out.old (with_pairs (H.meaning sheet.old.host) (survey_of survey.now) checked.entry.template.now survey.now.holes (length out.old) (record_pairs input.now found.now) found.now.end found.now.next) }
     ensures host { sheet.new.host ≡ sheet.old.host }
 {
     let template = checked.template();
@@ -123,8 +123,8 @@ fn merge_on<H: Host>(
     place: usize,
     out: &mut [u8],
 ) -> Result<Option<Merged>, Fault>
-    ensures answer { merged_of result ≡ weighed (merged (meaning sheet.old.host) template.entry.template.now input.now place (length out.old)) }
-    ensures text { out.new ≡ written out.old (merged (meaning sheet.old.host) template.entry.template.now input.now place (length out.old)) }
+    ensures answer { merged_of result ≡ weighed (merged (H.meaning sheet.old.host) template.entry.template.now input.now place (length out.old)) }
+    ensures text { out.new ≡ written out.old (merged (H.meaning sheet.old.host) template.entry.template.now input.now place (length out.old)) }
     ensures host { sheet.new.host ≡ sheet.old.host }
 {
     let mut survey = Survey::blank();
@@ -148,8 +148,8 @@ fn merge_and_clear<H: Host>(
     place: usize,
     out: &mut [u8],
 ) -> Result<Option<Merged>, Fault>
-    ensures answer { merged_of result ≡ weighed (merged (meaning sheet.old.host) template.entry.template.now input.now place (length out.old)) }
-    ensures text { out.new ≡ written out.old (merged (meaning sheet.old.host) template.entry.template.now input.now place (length out.old)) }
+    ensures answer { merged_of result ≡ weighed (merged (H.meaning sheet.old.host) template.entry.template.now input.now place (length out.old)) }
+    ensures text { out.new ≡ written out.old (merged (H.meaning sheet.old.host) template.entry.template.now input.now place (length out.old)) }
     ensures rows { sheet.new.table.rows ≡ blank 64 }
     ensures host { sheet.new.host ≡ sheet.old.host }
 {
@@ -167,11 +167,11 @@ pub fn merge<H: Host>(
     place: usize,
     out: &mut [u8],
 ) -> Result<Option<Merged>, Fault>
-    ensures answer { merged_of result ≡ weighed (merged (meaning sheet.old.host) template.entry.template.now input.now place (length out.old)) }
-    ensures text { out.new ≡ written out.old (merged (meaning sheet.old.host) template.entry.template.now input.now place (length out.old)) }
+    ensures answer { merged_of result ≡ weighed (merged (H.meaning sheet.old.host) template.entry.template.now input.now place (length out.old)) }
+    ensures text { out.new ≡ written out.old (merged (H.meaning sheet.old.host) template.entry.template.now input.now place (length out.old)) }
     ensures rows { sheet.new.table.rows ≡ blank 64 }
     ensures host { sheet.new.host ≡ sheet.old.host }
-    ensures law { WhereMerged result (λ x. ReadsAsRecord (meaning sheet.old.host) template.entry.template.now input.now place x.next (take x.len out.new)) }
+    ensures law { WhereMerged result (λ x. ReadsAsRecord (H.meaning sheet.old.host) template.entry.template.now input.now place x.next (take x.len out.new)) }
 {
     merge_and_clear(template, sheet, input, place, out)
 }

@@ -93,7 +93,7 @@ impl Run {
 
     // Reads a byte; a refusal comes to the flaw.
     fn read<H: Host>(&mut self, host: &H, byte: u8, flaw: Flaw) -> Result<(), Untold>
-        ensures { Comes result flaw (read_byte (meaning host.now) byte (state_of self.old)) (λ _. state_of self.new) }
+        ensures { Comes result flaw (read_byte (H.meaning host.now) byte (state_of self.old)) (λ _. state_of self.new) }
     {
         let (next, effect) = or_error(host.step(self.context, byte), flaw)?;
         self.apply(effect)?;
@@ -103,7 +103,7 @@ impl Run {
 
     // Reads bytes one after the other.
     fn read_all<H: Host>(&mut self, host: &H, bytes: &[u8], flaw: Flaw) -> Result<(), Untold>
-        ensures { Comes result flaw (read_bytes (meaning host.now) bytes.now (state_of self.old)) (λ _. state_of self.new) }
+        ensures { Comes result flaw (read_bytes (H.meaning host.now) bytes.now (state_of self.old)) (λ _. state_of self.new) }
     {
         for byte in bytes {
             self.read(host, *byte, flaw)?;
@@ -113,7 +113,7 @@ impl Run {
 
     // Reads the hole of this number: its opener, its mark, its closer.
     fn cross<H: Host>(&mut self, host: &H, number: usize, flaw: Flaw) -> Result<(), Untold>
-        ensures { Comes result flaw (run_hole (meaning host.now) number (state_of self.old)) (λ _. state_of self.new) }
+        ensures { Comes result flaw (run_hole (H.meaning host.now) number (state_of self.old)) (λ _. state_of self.new) }
     {
         let recipe = host.recipe(self.context);
         if !recipe.takes {
@@ -126,7 +126,7 @@ impl Run {
 
     // Reads the end, and gives the tokens.
     fn finish<H: Host>(mut self, host: &H, flaw: Flaw) -> Result<Vec<Token>, Untold>
-        ensures { Comes result flaw (read_end (meaning host.now) (state_of self)) (λ v. map token_of v.items) }
+        ensures { Comes result flaw (read_end (H.meaning host.now) (state_of self)) (λ v. map token_of v.items) }
     {
         let effect = or_error(host.end(self.context), flaw)?;
         self.apply(effect)?;
@@ -136,7 +136,7 @@ impl Run {
 
 // The tokens that a template comes to, with the marks of its holes.
 pub fn plan<H: Host>(heap: Global, template: &[u8], host: &H) -> Result<Vec<Token>, Untold>
-    ensures { Tells result (verdict (meaning host.now) template.now) (λ v. Planned (meaning host.now) template.now v.items) }
+    ensures { Tells result (verdict (H.meaning host.now) template.now) (λ v. Planned (H.meaning host.now) template.now v.items) }
 {
     survey(template, host)?;
     let mut run = Run::new(heap);

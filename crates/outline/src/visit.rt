@@ -24,7 +24,7 @@ pub struct Visit<'t> {
 
 // The context after an item that begins at `place`.
 fn pass<H: Host>(host: &H, context: u8, item: Item<'_>, place: usize) -> Result<u8, Flaw>
-    ensures { told_flaw result ≡ passing (meaning host.now) context item.entry place }
+    ensures { told_flaw result ≡ passing (H.meaning host.now) context item.entry place }
 {
     match item {
         Item::Literal(byte) => {
@@ -44,7 +44,7 @@ pub fn visits<'t, H: Host>(
     template: &'t [u8],
     host: &H,
 ) -> Result<Vec<Visit<'t>>, Untold>
-    ensures { Tells result (verdict (meaning host.now) template.now) (λ v. Visited (meaning host.now) template.now v.items) }
+    ensures { Tells result (verdict (H.meaning host.now) template.now) (λ v. Visited (H.meaning host.now) template.now v.items) }
 {
     survey(template, host)?;
     let mut visits = Vec::new(heap);

@@ -17,7 +17,7 @@ use template::survey::Survey;
 
 // The holes of a template and their bodies under the host of a sheet; 9 where that host refuses it.
 pub(crate) fn surveyed<H: Host>(template: &[u8], host: &H) -> Result<Survey, Fault>
-    ensures { surveyed_of result ≡ fitting_host (verdict (meaning host.now) template.now) }
+    ensures { surveyed_of result ≡ fitting_host (verdict (H.meaning host.now) template.now) }
 {
     match survey(template, host) {
         Ok(survey) => Ok(survey),
@@ -27,7 +27,7 @@ pub(crate) fn surveyed<H: Host>(template: &[u8], host: &H) -> Result<Survey, Fau
 
 // How many bytes of the value come before the first that the body turns away.
 fn spelled<H: Host>(host: &H, body: u8, value: &[u8]) -> usize
-    ensures { result ≡ prefix_len (spells (meaning host.now) body) value.now }
+    ensures { result ≡ prefix_len (spells (H.meaning host.now) body) value.now }
 {
     for (i, byte) in value.iter().enumerate() {
         if !host.spelling(body, *byte).spells {
@@ -46,7 +46,7 @@ impl Filling<'_> {
         hole: usize,
         value: &[u8],
     ) -> Result<(), Fault>
-        ensures { refusal_in result ≡ judge_bind_lem (meaning host.now) (bodies_of survey.now) self.now.holes (bit_at self.now.owed hole) hole value.now }
+        ensures { refusal_in result ≡ judge_bind_lem (H.meaning host.now) (bodies_of survey.now) self.now.holes (bit_at self.now.owed hole) hole value.now }
     {
         if hole >= self.holes {
             return Err(Fault::NoSuchHole { hole });
@@ -84,11 +84,11 @@ impl Filling<'_> {
         hole: usize,
         value: &[u8],
     ) -> Result<(), Fault>
-        ensures told { refusal_in result ≡ judged_bind (meaning sheet.old.host) self.old.template.now (state_of self.old sheet.old.table) hole value.now }
+        ensures told { refusal_in result ≡ judged_bind (H.meaning sheet.old.host) self.old.template.now (state_of self.old sheet.old.table) hole value.now }
         ensures state { state_of self.new sheet.new.table ≡ settled (refusal_in result) (filled (state_of self.old sheet.old.table) hole value.now) (state_of self.old sheet.old.table) }
         ensures host { sheet.new.host ≡ sheet.old.host }
         ensures template { self.new.template ≡ self.old.template }
-        ensures slate { TracksUnder (verdict (meaning sheet.old.host) self.old.template.now) (state_of self.old sheet.old.table) (state_of self.new sheet.new.table) (refusal_in result) (λ bodies ss. verdict_bind (meaning sheet.old.host) bodies ss hole value.now) (λ bodies ss. bound (meaning sheet.old.host) bodies ss hole value.now) }
+        ensures slate { TracksUnder (verdict (H.meaning sheet.old.host) self.old.template.now) (state_of self.old sheet.old.table) (state_of self.new sheet.new.table) (refusal_in result) (λ bodies ss. verdict_bind (H.meaning sheet.old.host) bodies ss hole value.now) (λ bodies ss. bound (H.meaning sheet.old.host) bodies ss hole value.now) }
         ensures held { refusal_in result ≡ None → value_at sheet.new.table.rows hole ≡ value.now }
     {
         let survey = surveyed(self.template, sheet.host())?;
@@ -103,11 +103,11 @@ impl Filling<'_> {
         hole: usize,
         value: &[u8],
     ) -> Result<(), Fault>
-        ensures told { refusal_in result ≡ judge_bind_lem (meaning sheet.old.host) (bodies_of survey.now) self.old.holes (bit_at self.old.owed hole) hole value.now }
+        ensures told { refusal_in result ≡ judge_bind_lem (H.meaning sheet.old.host) (bodies_of survey.now) self.old.holes (bit_at self.old.owed hole) hole value.now }
         ensures state { state_of self.new sheet.new.table ≡ settled (refusal_in result) (filled (state_of self.old sheet.old.table) hole value.now) (state_of self.old sheet.old.table) }
         ensures host { sheet.new.host ≡ sheet.old.host }
         ensures template { self.new.template ≡ self.old.template }
-        ensures slate { Tracks (state_of self.old sheet.old.table) (state_of self.new sheet.new.table) (refusal_in result) (λ ss. verdict_bind (meaning sheet.old.host) (bodies_of survey.now) ss hole value.now) (λ ss. bound (meaning sheet.old.host) (bodies_of survey.now) ss hole value.now) }
+        ensures slate { Tracks (state_of self.old sheet.old.table) (state_of self.new sheet.new.table) (refusal_in result) (λ ss. verdict_bind (H.meaning sheet.old.host) (bodies_of survey.now) ss hole value.now) (λ ss. bound (H.meaning sheet.old.host) (bodies_of survey.now) ss hole value.now) }
         ensures held { refusal_in result ≡ None → value_at sheet.new.table.rows hole ≡ value.now }
     {
         self.judge_bind(&sheet.host, survey, hole, value)?;

@@ -28,7 +28,7 @@ use template::lexer::item_at;
 fn spelled_len<H: Host>(host: &H, body: u8, value: &[u8], hole: usize) -> Result<usize, Fault>
     requires { length value.now ≤ 160 }
     ensures bound { IfOk result (λ n. n ≤ 960) }
-    ensures answer { told result ≡ weight (spelt_out (meaning host.now) body hole 0 value.now) }
+    ensures answer { told result ≡ weight (spelt_out (H.meaning host.now) body hole 0 value.now) }
 {
     let mut len = 0;
     for (place, byte) in value.iter().enumerate() {
@@ -44,7 +44,7 @@ fn spelled_len<H: Host>(host: &H, body: u8, value: &[u8], hole: usize) -> Result
 // The length of the text of a template.
 fn text_len<H: Host>(template: &[u8], host: &H, values: &Table) -> Result<usize, Fault>
     requires { length template.now ≤ 3584 }
-    ensures { told result ≡ weight (prints (meaning host.now) (value_at values.now.rows) (lexed_from template.now 0) 0 0) }
+    ensures { told result ≡ weight (prints (H.meaning host.now) (value_at values.now.rows) (lexed_from template.now 0) 0 0) }
 {
     let mut at = 0;
     let mut context = 0;
@@ -90,9 +90,9 @@ fn put(out: &mut [u8], at: usize, bytes: &[u8]) -> usize
 
 // A value as a body spells it, laid into the output.
 fn put_value<H: Host>(host: &H, body: u8, value: &[u8], out: &mut [u8], at: usize) -> usize
-    requires { Lies at (length out.old) (spelled (meaning host.now) body value.now) }
-    ensures end { result ≡ end_after at (spelled (meaning host.now) body value.now) }
-    ensures laid { out.new ≡ laid_if out.old at (spelled (meaning host.now) body value.now) }
+    requires { Lies at (length out.old) (spelled (H.meaning host.now) body value.now) }
+    ensures end { result ≡ end_after at (spelled (H.meaning host.now) body value.now) }
+    ensures laid { out.new ≡ laid_if out.old at (spelled (H.meaning host.now) body value.now) }
 {
     let mut end = at;
     for byte in value {
@@ -104,9 +104,9 @@ fn put_value<H: Host>(host: &H, body: u8, value: &[u8], out: &mut [u8], at: usiz
 
 // A hole with its value: its opener, the value as its body spells it, and its closer.
 fn put_hole<H: Host>(host: &H, recipe: Recipe, value: &[u8], out: &mut [u8], at: usize) -> usize
-    requires { Lies at (length out.old) (framed (brackets_of recipe) (spelled (meaning host.now) recipe.body value.now)) }
-    ensures end { result ≡ end_after at (framed (brackets_of recipe) (spelled (meaning host.now) recipe.body value.now)) }
-    ensures laid { out.new ≡ laid_if out.old at (framed (brackets_of recipe) (spelled (meaning host.now) recipe.body value.now)) }
+    requires { Lies at (length out.old) (framed (brackets_of recipe) (spelled (H.meaning host.now) recipe.body value.now)) }
+    ensures end { result ≡ end_after at (framed (brackets_of recipe) (spelled (H.meaning host.now) recipe.body value.now)) }
+    ensures laid { out.new ≡ laid_if out.old at (framed (brackets_of recipe) (spelled (H.meaning host.now) recipe.body value.now)) }
 {
     let opened = put(out, at, &recipe.opener[0..recipe.opener_len]);
     let spelled = put_value(host, recipe.body, value, out, opened);
@@ -115,9 +115,9 @@ fn put_hole<H: Host>(host: &H, recipe: Recipe, value: &[u8], out: &mut [u8], at:
 
 // The text of a template that was measured, laid into the output from its start.
 fn put_text<H: Host>(template: &[u8], host: &H, values: &Table, out: &mut [u8]) -> Result<(), Flaw>
-    requires { Fits 0 (length out.old) (prints (meaning host.now) (value_at values.now.rows) (lexed_from template.now 0) 0 0) }
+    requires { Fits 0 (length out.old) (prints (H.meaning host.now) (value_at values.now.rows) (lexed_from template.now 0) 0 0) }
     ensures ok { is_ok result ≡ true }
-    ensures text { out.new ≡ output out.old (prints (meaning host.now) (value_at values.now.rows) (lexed_from template.now 0) 0 0) }
+    ensures text { out.new ≡ output out.old (prints (H.meaning host.now) (value_at values.now.rows) (lexed_from template.now 0) 0 0) }
 {
     let mut at = 0;
     let mut context = 0;
@@ -154,11 +154,11 @@ impl Finished<'_> {
     // Writes the text of the filling from the start of the output, and keeps the bytes after it. Where it is refused, by
     // 9, 16 or 17, nothing is written.
     pub fn print<H: Host>(&self, sheet: &Sheet<H>, out: &mut [u8]) -> Result<usize, Fault>
-        ensures answer { told result ≡ weight (printed (meaning sheet.now.host) (value_at sheet.now.table.rows) self.now.template.now (length out.old)) }
-        ensures text { out.new ≡ output out.old (printed (meaning sheet.now.host) (value_at sheet.now.table.rows) self.now.template.now (length out.old)) }
-        ensures reads { IfOk result (λ n. ReadsBack (meaning sheet.now.host) (value_at sheet.now.table.rows) self.now.template.now (take n out.new)) }
+        ensures answer { told result ≡ weight (printed (H.meaning sheet.now.host) (value_at sheet.now.table.rows) self.now.template.now (length out.old)) }
+        ensures text { out.new ≡ output out.old (printed (H.meaning sheet.now.host) (value_at sheet.now.table.rows) self.now.template.now (length out.old)) }
+        ensures reads { IfOk result (λ n. ReadsBack (H.meaning sheet.now.host) (value_at sheet.now.table.rows) self.now.template.now (take n out.new)) }
         ensures short { IfOk result (λ n. n ≤ 65280) }
-        ensures slate { (ss : Slate) → sheet.now.table.rows ≡ rows_of ss → (told result ≡ weight (printed (meaning sheet.now.host) (values_on ss) self.now.template.now (length out.old))) × (out.new ≡ output out.old (printed (meaning sheet.now.host) (values_on ss) self.now.template.now (length out.old))) }
+        ensures slate { (ss : Slate) → sheet.now.table.rows ≡ rows_of ss → (told result ≡ weight (printed (H.meaning sheet.now.host) (values_on ss) self.now.template.now (length out.old))) × (out.new ≡ output out.old (printed (H.meaning sheet.now.host) (values_on ss) self.now.template.now (length out.old))) }
     {
         let _ = surveyed(self.template, sheet.host())?;
         self.print_surveyed(sheet, out)
@@ -167,9 +167,9 @@ impl Finished<'_> {
     // The same for a caller that has surveyed the template under the sheet's host already: the template is taken as one
     // that the host accepts, and of its flaws only those are found that stop the walk.
     pub fn print_surveyed<H: Host>(&self, sheet: &Sheet<H>, out: &mut [u8]) -> Result<usize, Fault>
-        ensures answer { told result ≡ weight (walked (meaning sheet.now.host) (value_at sheet.now.table.rows) self.now.template.now (length out.old)) }
-        ensures text { out.new ≡ output out.old (walked (meaning sheet.now.host) (value_at sheet.now.table.rows) self.now.template.now (length out.old)) }
-        ensures law { WalksAsPrinted (meaning sheet.now.host) (value_at sheet.now.table.rows) self.now.template.now }
+        ensures answer { told result ≡ weight (walked (H.meaning sheet.now.host) (value_at sheet.now.table.rows) self.now.template.now (length out.old)) }
+        ensures text { out.new ≡ output out.old (walked (H.meaning sheet.now.host) (value_at sheet.now.table.rows) self.now.template.now (length out.old)) }
+        ensures law { WalksAsPrinted (H.meaning sheet.now.host) (value_at sheet.now.table.rows) self.now.template.now }
     {
         if self.template.len() > MAX_TEMPLATE {
             return Err(Fault::Template(Flaw::TooLong));

@@ -4,7 +4,7 @@ use crate::answer::{counted, judged, printed, settled, stored};
 use crate::script::{Call, Script, Step, Under};
 use crate::shown::Quoted;
 use anyhow::anyhow;
-use csv::Csv;
+use csv_host::Csv;
 use fault::Fault;
 use host::Host;
 use printer::filling::Filling;

@@ -4,7 +4,7 @@ use Rattle.host.specs.declared.effect.Effect.{Effect}
 use Rattle.host.specs.declared.effect.Middle.TheVariants.{Nothing, Keep}
 use Rattle.host.specs.Meaning.{Meaning}
 use Rattle.fault.specs.Refusal.{plain}
-use Rattle.reading.specs.Listing.{listing, result, output}
+use Rattle.reading.specs.Listing.{listing, answer_of, output}
 
 abbrev still : Effect
 still = record { first = None; middle = Nothing; last = None }
@@ -35,14 +35,14 @@ text = 97 ∷ 98 ∷ 9 ∷ 32 ∷ 99 ∷ []
 abbrev out : List ℕ
 out = 7 ∷ 7 ∷ 7 ∷ 7 ∷ 7 ∷ 7 ∷ 7 ∷ 7 ∷ 7 ∷ 7 ∷ 7 ∷ 7 ∷ 7 ∷ 8 ∷ []
 
-listed : result (listing words text 14) ≡ Ok 13
+listed : answer_of (listing words text 14) ≡ Ok 13
 listed = refl
 
 written : output (listing words text 14) out ≡ 1 ∷ 0 ∷ 2 ∷ 97 ∷ 98 ∷ 2 ∷ 0 ∷ 1 ∷ 9 ∷ 1 ∷ 0 ∷ 1 ∷ 99 ∷ 8 ∷ []
 written = refl
 
-short : result (listing words text 12) ≡ Err (plain 17 13)
+short : answer_of (listing words text 12) ≡ Err (plain 17 13)
 short = refl
 
-refused : result (listing words (97 ∷ 0 ∷ []) 14) ≡ Err (plain 19 1)
+refused : answer_of (listing words (97 ∷ 0 ∷ []) 14) ≡ Err (plain 19 1)
 refused = refl

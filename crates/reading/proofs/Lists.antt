@@ -11,7 +11,7 @@ use Rattle.host.proofs.Chains.{inside, none_some}
 use Rattle.fault.specs.declared.fault.Fault.{Fault}
 use Rattle.reading.specs.declared.cursor.Cursor.{Cursor}
 use Rattle.fault.specs.Refusal.{Refusal, refusal_of, told, plain}
-use Rattle.reading.specs.Listing.{bytes_of, field, fields, by_step, read_before, by_reading, listing, result, output}
+use Rattle.reading.specs.Listing.{bytes_of, field, fields, by_step, read_before, by_reading, listing, answer_of, output}
 use Rattle.reading.specs.Cursors.{close_cursor, keep_cursor, after_cursor, reach, write_close, write_middle, write_effect}
 use Rattle.reading.specs.Passes.{origin, measure_end, measure_step, measured, write_end, write_step, written}
 use Rattle.reading.proofs.Turns.{OpenHeld, close_reach, keep_reach, within, open_more, end_empty}
@@ -149,7 +149,7 @@ module _ (old : List ℕ) where
 
 -- what is answered and written, at each way out
 pub record Ends (o : Option (List Token)) (p : ℕ) (out : List ℕ) (r : Result ℕ Refusal) (after : List ℕ) : Type 0 where
-  pub answers : r ≡ result (by_reading o p (length out))
+  pub answers : r ≡ answer_of (by_reading o p (length out))
   pub holds_out : after ≡ output (by_reading o p (length out)) out
 
 pub ends_refused : (o : Option (List Token)) (p : ℕ) (out : List ℕ) (f : Fault) → told {A = ℕ} (Err f) ≡ sized o p → Ends o p out (Err (refusal_of f)) out
@@ -162,7 +162,7 @@ ends_short (Some ts) p out t e lt =
     let same : t ≡ length (fields ts) = cc in
     let short : by_reading (Some ts) p (length out) ≡ Err (plain 17 (length (fields ts))) = cond-true _ _ _ (lt-ltb (length out) (length (fields ts)) (omega arith)) in
     let number : ℕ → Result ℕ Refusal = λ n. Err (plain 17 n) in
-    record { answers = ap number same ∙ ap result (sym short); holds_out = ap (λ r. output r out) (sym short) }
+    record { answers = ap number same ∙ ap answer_of (sym short); holds_out = ap (λ r. output r out) (sym short) }
 
 pub ends_listed : (o : Option (List Token)) (p : ℕ) (out after : List ℕ) (t : ℕ) → Ok t ≡ sized o p → t ≤ length out → ((ts : List Token) → o ≡ Some ts → length (fields ts) ≤ length out → after ≡ fields ts ++ drop (length (fields ts)) out) → Ends o p out (Ok t) after
 ends_listed None p out after t e le w = absurd (let z : ◌≡◌ {A = ℕ} 0 1 = cc in omega arith)
@@ -170,17 +170,17 @@ ends_listed (Some ts) p out after t e le w =
     let same : t ≡ length (fields ts) = cc in
     let fine : by_reading (Some ts) p (length out) ≡ Ok (fields ts) = cond-false _ _ _ (le-ltb (length out) (length (fields ts)) (omega arith)) in
     let number : ℕ → Result ℕ Refusal = λ n. Ok n in
-    record { answers = ap number same ∙ ap result (sym fine); holds_out = w ts refl (omega arith) ∙ ap (λ r. output r out) (sym fine) }
+    record { answers = ap number same ∙ ap answer_of (sym fine); holds_out = w ts refl (omega arith) ∙ ap (λ r. output r out) (sym fine) }
 
 -- so of a text that is not too long
 pub listing_short : (m : Meaning) (bs : List ℕ) (n : ℕ) → length bs ≤ 65534 → listing m bs n ≡ by_reading (reading m bs) (read_before m bs start) n
 listing_short m bs n h = cond-false _ _ _ (le-ltb 65534 (length bs) h)
 
 pub record Lists (m : Meaning) (bs out : List ℕ) (r : Result ℕ Refusal) (after : List ℕ) : Type 0 where
-  pub answers : r ≡ result (listing m bs (length out))
+  pub answers : r ≡ answer_of (listing m bs (length out))
   pub holds_out : after ≡ output (listing m bs (length out)) out
 
 pub lists : (m : Meaning) (bs out : List ℕ) (r : Result ℕ Refusal) (after : List ℕ) → length bs ≤ 65534 → Ends (reading m bs) (read_before m bs start) out r after → Lists m bs out r after
 lists m bs out r after h e =
     let same = sym (listing_short m bs (length out) h) in
-    record { answers = e.answers ∙ ap result same; holds_out = e.holds_out ∙ ap (λ l. output l out) same }
+    record { answers = e.answers ∙ ap answer_of same; holds_out = e.holds_out ∙ ap (λ l. output l out) same }

@@ -37,9 +37,9 @@ abbrev pub listing : Meaning → List ℕ → ℕ → Result (List ℕ) Refusal
 listing m bs n = cond (nat_lt 65534 (length bs)) (Err (plain 18 0)) (by_reading (reading m bs) (read_before m bs start) n)
 
 -- What is answered: the length of the fields, or the refusal.
-abbrev pub result : Result (List ℕ) Refusal → Result ℕ Refusal
-result (Ok fs) = Ok (length fs)
-result (Err f) = Err f
+abbrev pub answer_of : Result (List ℕ) Refusal → Result ℕ Refusal
+answer_of (Ok fs) = Ok (length fs)
+answer_of (Err f) = Err f
 
 -- What the output holds then: the fields from its start and its own bytes after them; or as it was.
 abbrev pub output : Result (List ℕ) Refusal → List ℕ → List ℕ

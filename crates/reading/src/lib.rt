@@ -3,7 +3,7 @@
 
 ghost use Rattle.std.specs.Prelude.{◌≡◌, ◌≤◌, length};
 ghost use Rattle.fault.specs.Refusal.{told};
-ghost use Rattle.reading.specs.Listing.{listing, result, output, RefusedRightly};
+ghost use Rattle.reading.specs.Listing.{listing, answer_of, output, RefusedRightly};
 ghost use Rattle.reading.specs.Passes.{origin, measured, written, Fits};
 
 mod cursor;
@@ -23,7 +23,7 @@ const ORIGIN: Cursor = Cursor { at: 0, held: 0 };
 // The length of the fields, or the place that the host refuses.
 fn measure<H: Host>(host: &H, text: &[u8]) -> Result<usize, Fault>
     requires { length text.now ≤ 65534 }
-    ensures* { λ r. ⌜ r ≡ measured (meaning host.now) text.now 0 origin 0 ⌝ }
+    ensures { result ≡ measured (H.meaning host.now) text.now 0 origin 0 }
 {
     let mut context = 0;
     let mut cursor = ORIGIN;
@@ -40,8 +40,8 @@ fn measure<H: Host>(host: &H, text: &[u8]) -> Result<usize, Fault>
 // Writes the fields of a text that is measured.
 fn write_all<H: Host>(host: &H, text: &[u8], out: &mut [u8])
     requires short { length text.now ≤ 65534 }
-    requires fits { Fits (measured (meaning host.now) text.now 0 origin 0) (length out.old) }
-    ensures* { λ _. ⌜ out.new ≡ written (meaning host.now) text.now 0 origin out.old ⌝ }
+    requires fits { Fits (measured (H.meaning host.now) text.now 0 origin 0) (length out.old) }
+    ensures { out.new ≡ written (H.meaning host.now) text.now 0 origin out.old }
 {
     let mut context = 0;
     let mut cursor = ORIGIN;
@@ -62,9 +62,9 @@ fn write_all<H: Host>(host: &H, text: &[u8], out: &mut [u8])
 
 // Lists the reading of a text in the output, and answers the length of the listing.
 pub fn list<H: Host>(host: &H, text: &[u8], out: &mut [u8]) -> Result<usize, Fault>
-    ensures* result { λ r. ⌜ told r ≡ result (listing (meaning host.now) text.now (length out.old)) ⌝ }
-    ensures* output { λ _. ⌜ out.new ≡ output (listing (meaning host.now) text.now (length out.old)) out.old ⌝ }
-    ensures* place { λ _. ⌜ RefusedRightly (meaning host.now) text.now ⌝ }
+    ensures result { told result ≡ answer_of (listing (H.meaning host.now) text.now (length out.old)) }
+    ensures output { out.new ≡ output (listing (H.meaning host.now) text.now (length out.old)) out.old }
+    ensures place { RefusedRightly (H.meaning host.now) text.now }
 {
     if text.len() > MOST {
         return Err(Fault::TextTooLong);

@@ -5,7 +5,7 @@ mod line;
 mod vector;
 
 use anyhow::anyhow;
-use csv::Csv;
+use csv_host::Csv;
 use host::Host;
 use line::{Line, read_line};
 use shell::Shell;

@@ -5,7 +5,7 @@ mod cases;
 
 use anyhow::anyhow;
 use cases::{CSV_CASES, Case, SHELL_CASES, SQL_CASES, Under, Verdict};
-use csv::Csv;
+use csv_host::Csv;
 use host::Host;
 use shell::Shell;
 use sql::Sql;

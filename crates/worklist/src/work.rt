@@ -36,7 +36,7 @@ fn follow<H: Host>(
     survey: &Survey,
     line: Line<'_>,
 ) -> Answer
-    ensures slate { Tracks (state_of filling.old sheet.old.table) (state_of filling.new sheet.new.table) (reply_of result) (λ ss. answer (meaning sheet.old.host) (bodies_of survey.now) ss (order_of line.entry)) (λ ss. next (meaning sheet.old.host) (bodies_of survey.now) ss (order_of line.entry)) }
+    ensures slate { Tracks (state_of filling.old sheet.old.table) (state_of filling.new sheet.new.table) (reply_of result) (λ ss. answer (H.meaning sheet.old.host) (bodies_of survey.now) ss (order_of line.entry)) (λ ss. next (H.meaning sheet.old.host) (bodies_of survey.now) ss (order_of line.entry)) }
     ensures host { sheet.new.host ≡ sheet.old.host }
     ensures template { filling.new.template ≡ filling.old.template }
 {
@@ -59,7 +59,7 @@ fn follow_all<H: Host>(
     answers: &mut Vec<Answer>,
 )
     requires { vec_len answers.old + length lines.now ≤ vec_capacity answers.old }
-    ensures slate { GoneDown (meaning sheet.old.host) (bodies_of survey.now) (state_of filling.old sheet.old.table) (state_of filling.new sheet.new.table) answers.old.items answers.new.items lines.now }
+    ensures slate { GoneDown (H.meaning sheet.old.host) (bodies_of survey.now) (state_of filling.old sheet.old.table) (state_of filling.new sheet.new.table) answers.old.items answers.new.items lines.now }
     ensures host { sheet.new.host ≡ sheet.old.host }
     ensures template { filling.new.template ≡ filling.old.template }
 {
@@ -71,8 +71,8 @@ fn follow_all<H: Host>(
 // Judges the finish, and prints where nothing is owed.
 fn conclude<H: Host>(filling: Filling<'_>, sheet: &Sheet<H>, out: &mut [u8]) -> Worked
     ensures finish { told result.finish ≡ judged_finish filling.entry.holes filling.entry.owed }
-    ensures print { print_of result.print ≡ print_after (judged_finish filling.entry.holes filling.entry.owed) (walked (meaning sheet.now.host) (value_at sheet.now.table.rows) filling.entry.template.now (length out.old)) }
-    ensures text { out.new ≡ output_after (judged_finish filling.entry.holes filling.entry.owed) out.old (walked (meaning sheet.now.host) (value_at sheet.now.table.rows) filling.entry.template.now (length out.old)) }
+    ensures print { print_of result.print ≡ print_after (judged_finish filling.entry.holes filling.entry.owed) (walked (H.meaning sheet.now.host) (value_at sheet.now.table.rows) filling.entry.template.now (length out.old)) }
+    ensures text { out.new ≡ output_after (judged_finish filling.entry.holes filling.entry.owed) out.old (walked (H.meaning sheet.now.host) (value_at sheet.now.table.rows) filling.entry.template.now (length out.old)) }
 {
     match filling.judge_finish() {
         Ok(holes) => {
@@ -99,8 +99,8 @@ pub fn work<H: Host>(
     answers: &mut Vec<Answer>,
     out: &mut [u8],
 ) -> Result<Worked, Unworked>
-    ensures kept { IfOk result (λ w. AddsKept (meaning sheet.old.host) raw.entry.template.now lines.now answers.old.items answers.new.items sheet.new.table.rows w out.old out.new) }
-    ensures refused { refusal_by result ≡ verdict_refusal (verdict (meaning sheet.old.host) raw.entry.template.now) }
+    ensures kept { IfOk result (λ w. AddsKept (H.meaning sheet.old.host) raw.entry.template.now lines.now answers.old.items answers.new.items sheet.new.table.rows w out.old out.new) }
+    ensures refused { refusal_by result ≡ verdict_refusal (verdict (H.meaning sheet.old.host) raw.entry.template.now) }
     ensures memory { LackedRoom result (vec_capacity answers.old) (vec_len answers.old + length lines.now) }
     ensures found { AsFound result sheet.old.table.rows sheet.new.table.rows answers.old.items answers.new.items out.old out.new }
     ensures host { sheet.new.host ≡ sheet.old.host }

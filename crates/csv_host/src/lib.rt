@@ -4,7 +4,7 @@
 ghost use Rattle.std.specs.Prelude.{◌≡◌, refl};
 ghost use Rattle.host.specs.Answers.{answered, spelling_of};
 ghost use Rattle.host.specs.Table.{in_class, stepped, spelled_by};
-ghost use Rattle.csv.specs.Table.{csv, textdata, inside, separators, field_start, bare, quoted, quote_seen, return_seen, bare_spells, quoted_spells, rows};
+ghost use Rattle.csv_host.specs.Table.{csv, textdata, inside, separators, field_start, bare, quoted, quote_seen, return_seen, bare_spells, quoted_spells, rows};
 ghost use Rattle.host.proofs.Sound;
 
 pub mod promise;
