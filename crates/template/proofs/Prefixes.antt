@@ -1,6 +1,6 @@
 -- What stands before a place: what a host makes of it, and one piece more of it.
 use Rattle.std.proofs.Common.{◌≡◌, ℕ, ◌+◌, ◌≤◌, List, [], ◌∷◌, ◌++◌, map, length, take, drop, Some, None, Option, sym, refl, ap, ◌∙◌, append_assoc, arith, length-append}
-use mathlib.Core.List.{map_append}
+use mathlib.Core.List.{map-append}
 use Rattle.std.specs.List.{flat_map, AllByRecursion}
 use Rattle.std.proofs.lemmas.List.{take-append-drop, length-take-le, take_at, flat_map_more}
 use Rattle.std.proofs.lemmas.List.Elements.{All-push}
@@ -94,7 +94,7 @@ module _ (m : Meaning) (t : List ℕ) (p : ℕ) where
       let ps = w.pieces ++ (pc ∷ []) in
       let long : length front ≡ p + length (written pc) = length-append (take p t) (written pc) ∙ ap (λ k. k + length (written pc)) (length-take-le p t w.within) in
       let cut : front ++ st.rest ≡ t = append_assoc (take p t) (written pc) st.rest ∙ ap (λ l. take p t ++ l) (sym st.reads) ∙ take-append-drop p t in
-      let way : visits m (map item ps) 0 ≡ Some d = ap (λ is. visits m is 0) (map_append item w.pieces (pc ∷ [])) ∙ visits_append m (map item w.pieces) (item pc ∷ []) 0 ∙ ap (λ o. chain o (visits m (item pc ∷ []))) (visited w) ∙ e in
+      let way : visits m (map item ps) 0 ≡ Some d = ap (λ is. visits m is 0) (map-append item w.pieces (pc ∷ [])) ∙ visits_append m (map item w.pieces) (item pc ∷ []) 0 ∙ ap (λ o. chain o (visits m (item pc ∷ []))) (visited w) ∙ e in
       let s = over_some place_of (run m (map item ps) 0 start) d (runs m (map item ps) 0 start ∙ way) in
       record {
         within = omega (arith, ap length cut, length-append front st.rest, long);
