@@ -69,7 +69,7 @@ written (q ∷ qs) zero ps p after few good d = absurd (omega arith)
 written (q ∷ qs) (suc room) ps p after few good d =
     let p' = after_pair p q in
     let joined = append_assoc ps (q ∷ []) qs in
-    let more = written qs room (ps ++ q ∷ []) p' after (omega arith) good.1 (subst Distinct (sym joined) d) in
+    let more = written qs room (ps ++ q ∷ []) p' after (omega arith) good (subst Distinct (sym joined) d) in
     let step = reads_written room ps p q (packed qs ++ after) good.0.0 (distinct_new ps q qs d) good.0.1 in
     let long = packed_more q qs in
     (more.0, ap (reads (suc room) ps p) (packed_split q qs after) ∙ step ∙ more.1 ∙ ap (λ l. found l more.0 (more.0 + 3)) joined, omega (arith, more.2))

@@ -10,7 +10,7 @@ pub returns-then-earlier-ge-MOST : goal.returns-then-earlier-ge-MOST
 returns-then-earlier-ge-MOST c =
     let long = length-map c.args.earlier.now pair_in in
     record {
-      judges = ap (λ w. verdict w (after_pair c.args.place (pair_in c.args.pair))) (sym (wrong_many (pairs_in c.args.earlier.now) c.args.place (pair_in c.args.pair) (sym c.if-not-is-name.ensures) (omega arith)));
+      judges = ap (λ w. verdict w (after_pair c.args.place (pair_in c.args.pair))) (sym (wrong_many (pairs_in c.args.earlier.now) c.args.place (pair_in c.args.pair) (sym c.if-not-is_name.ensures) (omega arith)));
       near = tt;
     }
 

@@ -9,7 +9,7 @@ returns-in-err-at c =
     rw (p.1, p.2) (at_wrong c.loop-i.invariant _ c.loop-i-test.true _ _ c.in-err-at.ensures.judges)
 
 pub loop-i-preserved : goal.loop-i-preserved
-loop-i-preserved c = goes_on c.loop-i.invariant _ c.loop-i-test.true c.in-ok-at.at c.in-ok-at.ensures.judges c.in-ok-at.ensures.near.0 c.in-ok-at.ensures.near.1
+loop-i-preserved c = goes_on c.loop-i.invariant _ c.loop-i-test.true c.in_ok-at.at c.in_ok-at.ensures.judges c.in_ok-at.ensures.near.0 c.in_ok-at.ensures.near.1
 
 pub overflow-sub-result : goal.overflow-sub-result
 overflow-sub-result c = omega (arith, c.loop-i.invariant.from)

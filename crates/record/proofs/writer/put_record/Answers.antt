@@ -21,4 +21,4 @@ put-field-requires-2 c =
     record { short = omega arith; room = omega (arith, fits, c.loop-pair.file.ok.0) }
 
 pub returns : goal.returns
-returns c = ended c.loop-pair.invariant c.loop-pair-test.false _ c.put-field-2.ensures.items
+returns c = ended c.loop-pair.invariant c.loop-pair-test.false _ c.put_field-2.ensures.items
