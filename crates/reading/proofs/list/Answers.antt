@@ -26,8 +26,8 @@ returns-then-needed-out g c =
     let m = g.H.Host.meaning c.args.host.now in
     let text = c.args.text.now in
     let out = c.args.out.now in
-    let t = c.in-ok-needed.needed in
-    let l = lists m text out (Err (plain 17 t)) out c.if-text-gt-MOST.false (ends_short (reading m text) (read_before m text start) out t (ap told c.in-ok-needed.ensures ∙ measures_reading m text) c.if-needed-out.true) in
+    let t = c.in_ok-needed.needed in
+    let l = lists m text out (Err (plain 17 t)) out c.if-text-gt-MOST.false (ends_short (reading m text) (read_before m text start) out t (ap told c.in_ok-needed.ensures ∙ measures_reading m text) c.if-needed-out.true) in
     record { result = l.answers; output = l.holds_out; place = refused_rightly m text }
 
 pub returns : goal.returns
@@ -35,8 +35,8 @@ returns g c =
     let m = g.H.Host.meaning c.args.host.now in
     let text = c.args.text.now in
     let out = c.args.out.now in
-    let t = c.in-ok-needed.needed in
-    let l = lists m text out (Ok t) c.write-all.new.out c.if-text-gt-MOST.false
-    (ends_listed (reading m text) (read_before m text start) out c.write-all.new.out t (ap told c.in-ok-needed.ensures ∙ measures_reading m text) c.if-needed-out.false
-    (λ ts e fits. c.write-all.ensures ∙ writes_reading out m (g.met.H.Host.sound c.args.host.now) text ts e fits)) in
+    let t = c.in_ok-needed.needed in
+    let l = lists m text out (Ok t) c.write_all.new.out c.if-text-gt-MOST.false
+    (ends_listed (reading m text) (read_before m text start) out c.write_all.new.out t (ap told c.in_ok-needed.ensures ∙ measures_reading m text) c.if-needed-out.false
+    (λ ts e fits. c.write_all.ensures ∙ writes_reading out m (g.met.H.Host.sound c.args.host.now) text ts e fits)) in
     record { result = l.answers; output = l.holds_out; place = refused_rightly m text }

@@ -19,9 +19,9 @@ loop-place-preserved g c =
     let m = g.H.Host.meaning c.args.host.now in
     let text = c.args.text.now in
     let i = c.loop-place.place in
-    let next = c.in-ok-next.next in
-    let effect = c.in-ok-next.effect in
-    let took = or_ok _ _ (next, effect) c.in-ok-next.ensures ∙ c.step.ensures in
+    let next = c.in_ok-next.next in
+    let effect = c.in_ok-next.effect in
+    let took = or_ok _ _ (next, effect) c.in_ok-next.ensures ∙ c.step.ensures in
     let back = sym c.after-cursor.ensures in
     let whole = measured m text 0 origin 0 in (
       subst (λ k. measured m (drop (i + 1) text) next k (i + 1) ≡ whole) back (measured_more m text i c.loop-place.context c.loop-place.cursor c.loop-place-test.true whole c.loop-place.invariant.0 (next, effect) took),
@@ -41,6 +41,6 @@ returns-in-err-effect g c =
 pub returns : goal.returns
 returns g c =
     let m = g.H.Host.meaning c.args.host.now in
-    let effect = c.in-ok-effect.effect in
+    let effect = c.in_ok-effect.effect in
     ap (λ k. Ok k.at) c.after.ensures
-    ∙ measured_ends m c.args.text.now c.loop-place.place c.loop-place.context c.loop-place.cursor c.loop-place-test.false (measured m c.args.text.now 0 origin 0) c.loop-place.invariant.0 effect (or_ok _ _ effect c.in-ok-effect.ensures ∙ c.end.ensures)
+    ∙ measured_ends m c.args.text.now c.loop-place.place c.loop-place.context c.loop-place.cursor c.loop-place-test.false (measured m c.args.text.now 0 origin 0) c.loop-place.invariant.0 effect (or_ok _ _ effect c.in_ok-effect.ensures ∙ c.end.ensures)
