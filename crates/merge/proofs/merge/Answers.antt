@@ -7,11 +7,11 @@ pub returns : goal.returns
 returns g c =
     let a = c.args in
     let h = a.sheet.now.host in
-    let done = c.merge-and-clear.ensures in
+    let done = c.merge_and_clear.ensures in
     record {
       answer = done.answer;
       text = done.text;
       rows = done.rows;
       host = done.host;
-      law = merged_reads (g.H.Host.meaning h) (g.met.H.Host.sound h) a.template.template.now a.input.now a.place _ (reading_undoes_writing a.input.now a.place) a.out.now c.merge-and-clear.new.out refl c.merge-and-clear.result done.answer done.text;
+      law = merged_reads (g.H.Host.meaning h) (g.met.H.Host.sound h) a.template.template.now a.input.now a.place _ (reading_undoes_writing a.input.now a.place) a.out.now c.merge_and_clear.new.out refl c.merge_and_clear.result done.answer done.text;
     }

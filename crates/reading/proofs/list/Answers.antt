@@ -11,14 +11,14 @@ pub returns-then-text-gt-MOST : goal.returns-then-text-gt-MOST
 returns-then-text-gt-MOST g c =
     record { result = search rules; output = search rules; place = refused_rightly (g.H.Host.meaning c.args.host.now) c.args.text.now }
 
-pub returns-in-err-needed : goal.returns-in-err-needed
-returns-in-err-needed g c =
+pub returns-in_err-needed : goal.returns-in_err-needed
+returns-in_err-needed g c =
     let m = g.H.Host.meaning c.args.host.now in
     let text = c.args.text.now in
     let out = c.args.out.now in
-    let f = c.in-err-needed.field-0.0 in
-    let p = err_from_is_err_and c.from-residual.result c.from-residual.ensures.1 in
-    let l = lists m text out (Err (refusal_of f)) out c.if-text-gt-MOST.false (ends_refused (reading m text) (read_before m text start) out f (ap told c.in-err-needed.ensures ∙ measures_reading m text)) in
+    let f = c.in_err-needed.field-0.0 in
+    let p = err_from_is_err_and c.from_residual.result c.from_residual.ensures.1 in
+    let l = lists m text out (Err (refusal_of f)) out c.if-text-gt-MOST.false (ends_refused (reading m text) (read_before m text start) out f (ap told c.in_err-needed.ensures ∙ measures_reading m text)) in
     record { result = ap told (p.1 ∙ ap Err p.2) ∙ l.answers; output = l.holds_out; place = refused_rightly m text }
 
 pub returns-then-needed-out : goal.returns-then-needed-out

@@ -7,10 +7,10 @@ use Rattle.reading.specs.Passes.{origin, measured}
 use Rattle.reading.proofs.Turns.{Small, small_more, measured_more, measured_stops, measured_ends, measured_refused}
 use Rattle.reading.proofs.measure.Goals as goal
 
-pub returns-in-err-next : goal.returns-in-err-next
-returns-in-err-next g c =
-    let p = err_from_is_err_and c.from-residual.result c.from-residual.ensures.1 in
-    let refused = or_err _ _ _ c.in-err-next.ensures in
+pub returns-in_err-next : goal.returns-in_err-next
+returns-in_err-next g c =
+    let p = err_from_is_err_and c.from_residual.result c.from_residual.ensures.1 in
+    let refused = or_err _ _ _ c.in_err-next.ensures in
     p.1 ∙ ap Err (p.2 ∙ refused.0)
     ∙ measured_stops (g.H.Host.meaning c.args.host.now) c.args.text.now c.loop-place.place c.loop-place.context c.loop-place.cursor c.loop-place-test.true _ c.loop-place.invariant.0 (refused.1 ∙ c.step.ensures)
 
@@ -28,12 +28,12 @@ loop-place-preserved g c =
       subst (λ k. Small k (i + 1)) back (small_more effect c.loop-place.cursor i c.loop-place.invariant.1),
     )
 
-pub returns-in-err-effect : goal.returns-in-err-effect
-returns-in-err-effect g c =
+pub returns-in_err-effect : goal.returns-in_err-effect
+returns-in_err-effect g c =
     let m = g.H.Host.meaning c.args.host.now in
-    let p = err_from_is_err_and c.from-residual-in-err-effect.result c.from-residual-in-err-effect.ensures.1 in
+    let p = err_from_is_err_and c.from_residual-in_err-effect.result c.from_residual-in_err-effect.ensures.1 in
     let all : length c.args.text.now ≡ c.loop-place.place = omega arith in
-    let refused = or_err _ _ _ c.in-err-effect.ensures in
+    let refused = or_err _ _ _ c.in_err-effect.ensures in
     let at : ℕ → Result ℕ Fault = λ p. Err (TextRefused p) in
     p.1 ∙ ap Err (p.2 ∙ refused.0) ∙ ap at all
     ∙ measured_refused m c.args.text.now c.loop-place.place c.loop-place.context c.loop-place.cursor c.loop-place-test.false (measured m c.args.text.now 0 origin 0) c.loop-place.invariant.0 (refused.1 ∙ c.end.ensures)

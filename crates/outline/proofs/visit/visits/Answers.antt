@@ -11,7 +11,7 @@ pub loop-visits-init : goal.loop-visits-init
 loop-visits-init g c =
     let m = g.H.Host.meaning c.args.host.now in
     let t = c.args.template.now in
-    (omega arith, accepted_walks m t _ _ c.in-ok-survey.ensures, ap (λ l. map sight_of l ++ visited m t) c.new-visits.ensures.items)
+    (omega arith, accepted_walks m t _ _ c.in_ok-survey.ensures, ap (λ l. map sight_of l ++ visited m t) c.new-visits.ensures.items)
 
 pub loop-visits-preserved : goal.loop-visits-preserved
 loop-visits-preserved g c =
@@ -23,7 +23,7 @@ loop-visits-preserved g c =
     let read : then c.in-Some.item p (lexed_from t next) ≡ lexed_from t p = search rules in
     let within : next ≤ length t = search rules in
     let pushed : vec_items c.push.new.self ≡ vec_items c.loop-visits.visits ++ (visit ∷ []) = search rules in
-    let r = met_more m t visit next c.in-ok-context.context _ _ read c.loop-visits.invariant.1 c.in-ok-context.ensures pushed c.loop-visits.invariant.2 in
+    let r = met_more m t visit next c.in_ok-context.context _ _ read c.loop-visits.invariant.1 c.in_ok-context.ensures pushed c.loop-visits.invariant.2 in
     (within, r.0, r.1)
 
 pub returns : goal.returns

@@ -12,8 +12,8 @@ put-opened-requires g c =
     let same = ap length (from_start r.opener_len r.opener) in
     omega (arith, f.2, same)
 
-pub put-value-spelled-requires : goal.put-value-spelled-requires
-put-value-spelled-requires g c =
+pub put_value-spelled-requires : goal.put_value-spelled-requires
+put_value-spelled-requires g c =
     let r = c.args.recipe in
     let o = spelled (g.H.Host.meaning c.args.host.now) r.body c.args.value.now in
     let e = c.put-opened.ensures.end ∙ ap (λ l. c.args.at + length l) (from_start r.opener_len r.opener) in
@@ -24,9 +24,9 @@ put-requires g c =
     let r = c.args.recipe in
     let o = spelled (g.H.Host.meaning c.args.host.now) r.body c.args.value.now in
     let e = c.put-opened.ensures.end ∙ ap (λ l. c.args.at + length l) (from_start r.opener_len r.opener) in
-    let f = closer_fits (brackets_of r) c.args.at (length c.args.out.now) c.put-opened.result c.put-value-spelled.result o c.requires e c.put-value-spelled.ensures.end in
+    let f = closer_fits (brackets_of r) c.args.at (length c.args.out.now) c.put-opened.result c.put_value-spelled.result o c.requires e c.put_value-spelled.ensures.end in
     let same = ap length (from_start r.closer_len r.closer) in
-    omega (arith, f, same, c.put-opened.auto.out, c.put-value-spelled.auto.out)
+    omega (arith, f, same, c.put-opened.auto.out, c.put_value-spelled.auto.out)
 
 pub returns : goal.returns
 returns g c =
@@ -35,11 +35,11 @@ returns g c =
     let o = spelled (g.H.Host.meaning c.args.host.now) r.body c.args.value.now in
     let opener = from_start r.opener_len r.opener in
     let closer = from_start r.closer_len r.closer in
-    let done = framed_put (brackets_of r) o c.args.out.now c.put-opened.new.out c.put-value-spelled.new.out c.put.new.out at c.put-opened.result c.put-value-spelled.result c.put.result c.requires
+    let done = framed_put (brackets_of r) o c.args.out.now c.put-opened.new.out c.put_value-spelled.new.out c.put.new.out at c.put-opened.result c.put_value-spelled.result c.put.result c.requires
     (c.put-opened.ensures.laid ∙ ap (laid c.args.out.now at) opener)
     (c.put-opened.ensures.end ∙ ap (λ l. at + length l) opener)
-    c.put-value-spelled.ensures.laid
-    c.put-value-spelled.ensures.end
-    (c.put.ensures.laid ∙ ap (laid c.put-value-spelled.new.out c.put-value-spelled.result) closer)
-    (c.put.ensures.end ∙ ap (λ l. c.put-value-spelled.result + length l) closer) in
+    c.put_value-spelled.ensures.laid
+    c.put_value-spelled.ensures.end
+    (c.put.ensures.laid ∙ ap (laid c.put_value-spelled.new.out c.put_value-spelled.result) closer)
+    (c.put.ensures.end ∙ ap (λ l. c.put_value-spelled.result + length l) closer) in
     record { end = done.0; laid = done.1 }

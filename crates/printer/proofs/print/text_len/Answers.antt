@@ -15,18 +15,18 @@ loop-item-preserved g c =
     let t = c.args.template.now in
     let h = c.in-Hole.hole in
     let k = c.loop-item.holes in
-    let n = c.in-ok-spelled.spelled in
+    let n = c.in_ok-spelled.spelled in
     let r = c.recipe-recipe.result in
     let onward : (c.loop-item.at < c.in-Some.next) × (c.in-Some.next ≤ length t) = search rules in
     let read : lexed_from t c.loop-item.at ≡ hole h.place h.name.now (lexed_from t c.in-Some.next) = search rules in
-    let x : ℕ × ℕ = (c.in-ok-after.field-0-0, c.in-ok-after.after) in
+    let x : ℕ × ℕ = (c.in_ok-after.field-0-0, c.in_ok-after.after) in
     let crossed : crossing m c.loop-item.context ≡ Some x = search rules in
     let spelled : Ok n ≡ weight (spelt_out m r.body k 0 (v k)) = search rules in
     let most : n ≤ 960 = search rules in
     let weighed = weigh_hole m v (lexed_from t c.in-Some.next) h.place k c.loop-item.context c.loop-item.len h.name.now r x c.recipe-recipe.ensures crossed n (search rules) (search rules) spelled in
     (onward.1, omega arith, omega (arith, r.opener_fits, r.closer_fits), c.loop-item.invariant.3 ∙ ap (λ l. plus c.loop-item.len (prints m v l k c.loop-item.context)) read ∙ weighed)
 
-pub spelled-len-requires : goal.spelled-len-requires
-spelled-len-requires g c =
+pub spelled_len-requires : goal.spelled_len-requires
+spelled_len-requires g c =
     let t = c.args.values.now in
     omega (arith, ap length c.value.ensures, value_short t.rows c.loop-item.holes t.fits)

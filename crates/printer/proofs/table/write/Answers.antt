@@ -8,4 +8,4 @@ of v bs = record { len = length v; bytes = bs }
 
 pub returns : goal.returns
 unfolding of
-returns c = ap (of c.args.value.now) (laid c.args.value.now _ c.copy-from-slice.ensures.after c.requires)
+returns c = ap (of c.args.value.now) (laid c.args.value.now _ c.copy_from_slice.ensures.after c.requires)

@@ -14,8 +14,8 @@ loop-line-init g c =
     let a = c.args in
     (none_gone (g.H.Host.meaning a.sheet.now.host) (bodies_of a.survey.now) (state_of a.filling.now a.sheet.now.table) (vec_items a.answers.now), omega (arith, c.requires), refl, refl)
 
-pub push-reserved-requires : goal.push-reserved-requires
-push-reserved-requires g c = omega (arith, c.loop-line.invariant.1, c.loop-line-test.true)
+pub push_reserved-requires : goal.push_reserved-requires
+push_reserved-requires g c = omega (arith, c.loop-line.invariant.1, c.loop-line-test.true)
 
 pub loop-line-preserved : goal.loop-line-preserved
 unfolding past
@@ -27,8 +27,8 @@ loop-line-preserved g c =
     let st = state_of a.filling.now a.sheet.now.table in
     let st₁ = state_of l.filling l.sheet.table in
     let st₂ = state_of c.follow.new.filling c.follow.new.sheet.table in (
-      gone_more m (bodies_of a.survey.now) st st₁ st₂ (vec_items a.answers.now) (vec_items l.answers) (vec_items c.push-reserved.new.self) c.follow.result a.lines.now l.line-index past (g.H.Host.meaning l.sheet.host) (ap g.H.Host.meaning l.invariant.2) c.loop-line-test.true c.push-reserved.ensures.items l.invariant.0 told.slate,
-      omega (arith, l.invariant.1, c.push-reserved.ensures.len, c.push-reserved.ensures.capacity),
+      gone_more m (bodies_of a.survey.now) st st₁ st₂ (vec_items a.answers.now) (vec_items l.answers) (vec_items c.push_reserved.new.self) c.follow.result a.lines.now l.line-index past (g.H.Host.meaning l.sheet.host) (ap g.H.Host.meaning l.invariant.2) c.loop-line-test.true c.push_reserved.ensures.items l.invariant.0 told.slate,
+      omega (arith, l.invariant.1, c.push_reserved.ensures.len, c.push_reserved.ensures.capacity),
       told.host ∙ l.invariant.2,
       told.template ∙ l.invariant.3,
     )

@@ -5,6 +5,6 @@ use Rattle.outline.proofs.run.Run.add.Goals as goal
 
 pub returns : goal.returns
 returns c =
-    let taken = c.take-open-value in
+    let taken = c.take_open-value in
     let pushed : vec_items c.push.new.self ≡ vec_items taken.result ++ (c.args.symbol ∷ []) = search rules in
     added (state_of c.args.self.now) (state_of taken.new.self) c.args.symbol _ _ taken.ensures.after taken.ensures.value pushed

@@ -5,9 +5,9 @@ use Rattle.outline.specs.Runs.{state_of}
 use Rattle.outline.proofs.States.{closed}
 use Rattle.outline.proofs.run.Run.close.Goals as goal
 
-pub returns-in-ok-push : goal.returns-in-ok-push
-returns-in-ok-push c =
-    let taken = c.take-open-value in
+pub returns-in_ok-push : goal.returns-in_ok-push
+returns-in_ok-push c =
+    let taken = c.take_open-value in
     let token : Token = record { kind = c.in-Some.kind; value = taken.result } in
     let pushed : vec_items c.push.new.self ≡ vec_items taken.new.self.closed ++ (token ∷ []) = search rules in
     let before = state_of c.args.self.now in

@@ -22,14 +22,14 @@ returns g c =
     let rows = a.sheet.now.table.rows in
     let v : ℕ → List ℕ = value_at rows in
     let old = a.out.now in
-    let new = c.print-surveyed.new.out in
-    let r = c.print-surveyed.result in
-    let s = c.in-ok-surveyed.field-0 in
+    let new = c.print_surveyed.new.out in
+    let r = c.print_surveyed.result in
+    let s = c.in_ok-surveyed.field-0 in
     let same : g.H.Host.meaning c.host.result.now ≡ m = ap g.H.Host.meaning c.host.ensures in
-    let judged : verdict m t ≡ accepted s.holes (bodies_of s) = host_takes (verdict m t) s.holes (bodies_of s) (c.in-ok-surveyed.ensures ∙ ap (λ (k : Meaning). fitting_host (verdict k t)) same) in
+    let judged : verdict m t ≡ accepted s.holes (bodies_of s) = host_takes (verdict m t) s.holes (bodies_of s) (c.in_ok-surveyed.ensures ∙ ap (λ (k : Meaning). fitting_host (verdict k t)) same) in
     let is = walked_printed m v t s.holes (bodies_of s) judged (length old) in
-    let answer : told r ≡ weight (printed m v t (length old)) = c.print-surveyed.ensures.answer ∙ ap weight is in
-    let text : new ≡ output old (printed m v t (length old)) = c.print-surveyed.ensures.text ∙ ap (output old) is in
+    let answer : told r ≡ weight (printed m v t (length old)) = c.print_surveyed.ensures.answer ∙ ap weight is in
+    let text : new ≡ output old (printed m v t (length old)) = c.print_surveyed.ensures.text ∙ ap (output old) is in
     record {
       answer = answer;
       text = text;
@@ -38,8 +38,8 @@ returns g c =
       slate = λ ss laid. let same = fun_ext (rows_hold rows ss laid) in (answer ∙ ap (λ (u : ℕ → List ℕ). weight (printed m u t (length old))) same, text ∙ ap (λ (u : ℕ → List ℕ). output old (printed m u t (length old))) same);
     }
 
-pub returns-in-err-surveyed : goal.returns-in-err-surveyed
-returns-in-err-surveyed g c =
+pub returns-in_err-surveyed : goal.returns-in_err-surveyed
+returns-in_err-surveyed g c =
     let a = c.args in
     let m = g.H.Host.meaning a.sheet.now.host in
     let sound = g.met.H.Host.sound a.sheet.now.host in
@@ -47,10 +47,10 @@ returns-in-err-surveyed g c =
     let rows = a.sheet.now.table.rows in
     let v : ℕ → List ℕ = value_at rows in
     let old = a.out.now in
-    let r = c.from-residual.result in
+    let r = c.from_residual.result in
     let same : g.H.Host.meaning c.host.result.now ≡ m = ap g.H.Host.meaning c.host.ensures in
-    let p = err_from_is_err_and r c.from-residual.ensures.1 in
-    let d = host_refuses (verdict m t) _ (c.in-err-surveyed.ensures ∙ ap (λ (k : Meaning). fitting_host (verdict k t)) same) in
+    let p = err_from_is_err_and r c.from_residual.ensures.1 in
+    let d = host_refuses (verdict m t) _ (c.in_err-surveyed.ensures ∙ ap (λ (k : Meaning). fitting_host (verdict k t)) same) in
     let answer : told r ≡ weight (printed m v t (length old)) = ap told p.1 ∙ ap (λ f. Err (refusal_of f)) p.2 ∙ ap (λ (q : Refusal). Err q) d.2 ∙ sym (ap (λ (x : Verdict). weight (printed_by x m v t (length old))) d.1) in
     let text : old ≡ output old (printed m v t (length old)) = sym (ap (λ (x : Verdict). output old (printed_by x m v t (length old))) d.1) in
     record {
