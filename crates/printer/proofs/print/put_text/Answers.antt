@@ -8,14 +8,14 @@ use Rattle.printer.proofs.Writing.{byte_room, far_byte, hole_lies, far_hole}
 use Rattle.printer.specs.Rows.{value_at}
 use Rattle.printer.proofs.print.put_text.Given as given
 use Rattle.printer.proofs.print.put_text.Goals as goal
-use Rattle.printer.proofs.print.put_text.Goals.{In_ok-reached, After-value}
+use Rattle.printer.proofs.print.put_text.Goals.{In_ok-reached-in-Literal, After-value}
 
-module _ (g : given.Over) (c : In_ok-reached g) where
+module _ (g : given.Over) (c : In_ok-reached-in-Literal g) where
   -- a literal: what was read, and what the host answered
   byte_read : lexed_from c.args.template.now c.loop-item.at ≡ byte c.loop-item.at c.in-Literal.byte (lexed_from c.args.template.now c.in-Some.next)
   byte_read = search rules
 
-  stepped : (g.H.Host.meaning c.args.host.now).step c.loop-item.context c.in-Literal.byte ≡ Some (c.in_ok-reached.reached, c.in_ok-reached.field-0-1)
+  stepped : (g.H.Host.meaning c.args.host.now).step c.loop-item.context c.in-Literal.byte ≡ Some (c.in_ok-reached-in-Literal.reached, c.in_ok-reached-in-Literal.field-0-1)
   stepped = search rules
 
   fits : c.loop-item.end < length c.args.out.now
@@ -24,14 +24,14 @@ module _ (g : given.Over) (c : In_ok-reached g) where
       byte_room (g.H.Host.meaning c.args.host.now) (value_at c.args.values.now.rows) (lexed_from t 0) (lexed_from t c.loop-item.at) c.args.out.now c.loop-item.out c.loop-item.holes c.loop-item.context c.loop-item.end c.loop-item.invariant.2 c.requires c.loop-item.at (lexed_from t c.in-Some.next) c.in-Literal.byte _ byte_read stepped
 
 pub bounds-out-end : goal.bounds-out-end
-bounds-out-end g c = let f = fits g (goal.at.bounds-out-end g c).In_ok-reached in omega (arith, c.loop-item.auto.out)
+bounds-out-end g c = let f = fits g (goal.at.bounds-out-end g c).In_ok-reached-in-Literal in omega (arith, c.loop-item.auto.out)
 
-pub overflow-add-end : goal.overflow-add-end
-overflow-add-end g c = let f = fits g (goal.at.overflow-add-end g c).In_ok-reached in search rules
+pub overflow_add-end : goal.overflow_add-end
+overflow_add-end g c = let f = fits g (goal.at.overflow_add-end g c).In_ok-reached-in-Literal in search rules
 
-pub loop-item-preserved-in_ok-reached : goal.loop-item-preserved-in_ok-reached
-loop-item-preserved-in_ok-reached g c =
-    let d = (goal.at.loop-item-preserved-in_ok-reached g c).In_ok-reached in
+pub loop-item-preserved-in_ok-reached-in-Literal : goal.loop-item-preserved-in_ok-reached-in-Literal
+loop-item-preserved-in_ok-reached-in-Literal g c =
+    let d = (goal.at.loop-item-preserved-in_ok-reached-in-Literal g c).In_ok-reached-in-Literal in
     let t = c.args.template.now in
     let onward : (c.loop-item.at < c.in-Some.next) × (c.in-Some.next ≤ length t) = search rules in (
       onward.1,
@@ -44,7 +44,7 @@ module _ (g : given.Over) (c : After-value g) where
   hole_read : lexed_from c.args.template.now c.loop-item.at ≡ hole c.in-Hole.hole.place c.in-Hole.hole.name.now (lexed_from c.args.template.now c.in-Some.next)
   hole_read = search rules
 
-  crossed : crossing (g.H.Host.meaning c.args.host.now) c.loop-item.context ≡ Some (c.in_ok-after.field-0-0, c.in_ok-after.after)
+  crossed : crossing (g.H.Host.meaning c.args.host.now) c.loop-item.context ≡ Some (c.in_ok-after-in-Hole.field-0-0, c.in_ok-after-in-Hole.after)
   crossed = search rules
 
 pub put_hole-end-requires : goal.put_hole-end-requires

@@ -3,8 +3,8 @@ use Rattle.printer.specs.Rows.{fit}
 use Rattle.printer.proofs.Laid.{blank_is, fit_blank}
 use Rattle.printer.proofs.table.Table.new.Goals as goal
 
-pub invariant-of-result : goal.invariant-of-result
-invariant-of-result c = (ap fit (blank_is 64 _ c.empty-row.ensures) ∙ fit_blank 64, (refl, tt))
+pub invariant_of-result : goal.invariant_of-result
+invariant_of-result c = record { fits = ap fit (blank_is 64 _ c.empty-row.ensures) ∙ fit_blank 64; all = refl }
 
 pub returns : goal.returns
 returns c = blank_is 64 _ c.empty-row.ensures

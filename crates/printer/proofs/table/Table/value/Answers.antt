@@ -11,8 +11,8 @@ returns-then-hole-ge-ROWS c =
     let beyond : length t.rows ≤ c.args.hole = omega (arith, t.all) in
     ap value_in (sym (get_or-eq_default t.rows past beyond))
 
-pub slice-bounds-result-end-2 : goal.slice-bounds-result-end-2
-slice-bounds-result-end-2 c =
+pub slice_bounds-result-end-2 : goal.slice_bounds-result-end-2
+slice_bounds-result-end-2 c =
     let h : (get_or c.args.self.now.rows c.args.hole past).len ≤ 160 = len_fits c.args.self.now.rows c.args.hole c.args.self.now.fits in
     search rules
 
