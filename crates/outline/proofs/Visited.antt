@@ -1,6 +1,6 @@
 -- What is met of a template is what the run of its pieces meets.
 use Rattle.std.proofs.Common.{◌≡◌, ℕ, ◌+◌, List, [], ◌∷◌, ◌++◌, map, length, Some, None, Option, sym, refl, ap, ◌∙◌, length-append}
-use mathlib.Core.List.{map_append}
+use mathlib.Core.List.{map-append}
 use Rattle.std.specs.List.{flat_map}
 use Rattle.std.proofs.lemmas.List.{flat_map_more}
 use Rattle.host.specs.Meaning.{Meaning, chain}
@@ -58,7 +58,7 @@ module _ (m : Meaning) where
       let way = visits m (map item before) 0 in
       let to : ℕ → List Sight = λ c. sight p c (met_at p pc) ∷ sights m longer ps in
       let there : p + length (written pc) ≡ length (flat_map written longer) = sym (length-append (flat_map written before) (written pc)) ∙ ap length (flat_map_more written [] before pc) in
-      let further : chain way (visits m (item pc ∷ [])) ≡ visits m (map item longer) 0 = sym (visits_append m (map item before) (item pc ∷ []) 0) ∙ ap (λ is. visits m is 0) (sym (map_append item before (pc ∷ []))) in
+      let further : chain way (visits m (item pc ∷ [])) ≡ visits m (map item longer) 0 = sym (visits_append m (map item before) (item pc ∷ []) 0) ∙ ap (λ is. visits m is 0) (sym (map-append item before (pc ∷ []))) in
       visited_one pc p (laid ps (p + length (written pc))) (sights m longer ps) way ((λ i. decide (further i) [] (visited_from m (laid ps (there i)))) ∙ visited_laid ps longer)
       ∙ ap (λ o. decide o [] to) (sym (runs m (map item before) 0 start))
       ∙ met_over place_of (run m (map item before) 0 start) to

@@ -21,16 +21,16 @@ loop-run-init g c =
     let e = c.new-run.ensures in
     (omega arith, omega arith, subst (λ s. Walks m (lexed_from t 0) s.context) (sym e) (accepted_walks m t _ _ c.in_ok-survey.ensures), ap (run m (items t) 0) e)
 
-pub returns-in_err-cross : goal.returns-in_err-cross
-returns-in_err-cross g c =
+pub returns-in_err-cross-in-Hole : goal.returns-in_err-cross-in-Hole
+returns-in_err-cross-in-Hole g c =
     let m = g.H.Host.meaning c.args.host.now in
     let t = c.args.template.now in
     let h = c.in-Hole.field-0 in
     let rest = lexed_from t c.in-Some.next in
     let read : lexed_from t c.loop-run.place ≡ hole h.place h.name.now rest = search rules in
     let walked = subst (λ l. Walks m l c.loop-run.run.context) read c.loop-run.invariant.2 in
-    let q = err_from_is_err_and c.from_residual-in_err-cross.result c.from_residual-in_err-cross.ensures.1 in
-    rw (q.1, q.2) (hole_told m rest h.place h.name.now c.loop-run.holes (state_of c.loop-run.run) walked c.in_err-cross.field-0.0 (HoleRefused c.loop-run.place) (λ _. state_of c.cross.new.self) (verdict m t) (λ v. Planned m t (vec_items v)) c.in_err-cross.ensures)
+    let q = err_from_is_err_and c.from_residual-in_err-cross-in-Hole.result c.from_residual-in_err-cross-in-Hole.ensures.1 in
+    rw (q.1, q.2) (hole_told m rest h.place h.name.now c.loop-run.holes (state_of c.loop-run.run) walked c.in_err-cross-in-Hole.field-0.0 (HoleRefused c.loop-run.place) (λ _. state_of c.cross.new.self) (verdict m t) (λ v. Planned m t (vec_items v)) c.in_err-cross-in-Hole.ensures)
 
 pub loop-run-preserved : goal.loop-run-preserved
 loop-run-preserved g c =
@@ -45,7 +45,7 @@ loop-run-preserved g c =
     let few : k + 1 ≤ c.in-Some.next = search rules in
     let read : lexed_from t c.loop-run.place ≡ hole h.place h.name.now rest = search rules in
     let walked = subst (λ l. Walks m l c.loop-run.run.context) read c.loop-run.invariant.2 in
-    let crossed = c.in_ok-cross.ensures in (
+    let crossed = c.in_ok-cross-in-Hole.ensures in (
       within,
       few,
       hole_walks m rest h.place h.name.now k s walked after crossed,
