@@ -8,7 +8,6 @@ use Rattle.std.proofs.lemmas.Bool.{ltb-true, eqb-true}
 use Rattle.host.specs.Meaning.{Meaning}
 use Rattle.fault.specs.declared.fault.Fault.{Fault}
 use Rattle.fault.specs.Refusal.{Refusal, of_hole}
-use Rattle.template.specs.Judging.{refused}
 use Rattle.printer.specs.Calls.{refusal_in}
 use Rattle.printer.specs.declared.row.Row.{Row}
 use Rattle.printer.specs.Rows.{zeros, row_of, blank, value_in, value_at}

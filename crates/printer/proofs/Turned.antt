@@ -10,7 +10,6 @@ use Rattle.template.specs.Judging.{accepted, crossing, decide, judge, verdict}
 use Rattle.template.specs.Items.{items}
 use Rattle.template.proofs.Judged.{apart, decided, crossed}
 use Rattle.template.proofs.Plans.{short}
-use Rattle.template.proofs.Reading.{nothing}
 use Rattle.template.proofs.Accepted.{crossed_recipe, accepted_is}
 use Rattle.printer.specs.Slate.{spells}
 use Rattle.printer.specs.Printing.{first_turned, turned, printed_as, printed_by, printed, after}

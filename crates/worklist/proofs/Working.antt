@@ -1,7 +1,6 @@
 -- From the answers of the calls that going down a list makes to the promise.
 use Rattle.std.proofs.Common.{◌≡◌, ℕ, ◌<◌, ◌≤◌, List, map, length, IfOk, Some, Ok, Err, Option, Result, sym, ap, ◌∙◌, subst, ap₂, arith}
 use Rattle.host.specs.Meaning.{Meaning, Sound}
-use Rattle.host.specs.Promise.{holes}
 use Rattle.fault.specs.declared.fault.Fault.{Fault}
 use Rattle.fault.specs.Refusal.{Refusal, told, of_template}
 use Rattle.template.specs.declared.survey.Survey.{Survey}

@@ -9,7 +9,7 @@ use Rattle.printer.specs.declared.row.Row.{Row}
 use Rattle.printer.specs.Held.{rows_of}
 use Rattle.printer.specs.Printing.{printed, no_room}
 use Rattle.printer.specs.Rows.{value_at}
-use Rattle.printer.specs.Slate.{Slate, fresh, owed_at, lowest, values_on}
+use Rattle.printer.specs.Slate.{Slate, fresh, owed_at, values_on}
 use Rattle.worklist.specs.Lines.{Order, bind, release, owed, Reply, taken, refused, owes_now, answers, final}
 
 -- The slate of a template after a list, what it answers to the list, and the text with its values.

@@ -1,5 +1,4 @@
 use Rattle.std.proofs.Common.{◌+◌, ◌-◌, sym, subst, arith}
-use Rattle.printer.specs.Passes.{laid}
 use Rattle.printer.proofs.Laying.{Sofar, sofar_none, spelt, room, sofar_more, sofar_all}
 use Rattle.printer.proofs.print.put_value.Goals as goal
 
