@@ -11,8 +11,8 @@ returns-in_err-at c =
 pub loop-i-preserved : goal.loop-i-preserved
 loop-i-preserved c = goes_on c.loop-i.invariant _ c.loop-i-test.true c.in_ok-at.at c.in_ok-at.ensures.judges c.in_ok-at.ensures.near.0 c.in_ok-at.ensures.near.1
 
-pub overflow-sub-result : goal.overflow-sub-result
-overflow-sub-result c = omega (arith, c.loop-i.invariant.from)
+pub overflow_sub-result : goal.overflow_sub-result
+overflow_sub-result c = omega (arith, c.loop-i.invariant.from)
 
 pub returns : goal.returns
 returns c = at_last c.loop-i.invariant c.loop-i-test.false
