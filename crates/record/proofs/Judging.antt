@@ -2,6 +2,7 @@
 use Rattle.std.proofs.Common.{◌≡◌, ℕ, ◌+◌, ◌-◌, ◌*◌, ◌<◌, ◌≤◌, Bool, true, false, cond, ◌||◌, ltb, leb, List, [], ◌∷◌, ◌++◌, length, get_or, take, drop, Some, None, Ok, Err, All, Option, sym, refl, ap, ◌∙◌, subst, append_assoc, append-nil, arith}
 use Rattle.std.specs.Str.{bytes_eq}
 use Rattle.std.proofs.lemmas.List.{at_drop_more, at_drop_all, take_more, take-map, drop-map, map_push, length_push, length-take-le}
+use Rattle.std.proofs.lemmas.List.Elements.{All-nil, All-cons, All-head, All-tail}
 use Rattle.std.proofs.lemmas.Bool.{le-leb, lt-leb, lt-ltb, le-ltb, cond-true, cond-false}
 use Rattle.std.proofs.lemmas.Bool.Decides.{nat_tests}
 use Rattle.fault.specs.Refusal.{Refusal, plain}
@@ -133,21 +134,22 @@ or_none (Some r) more h = absurd (let z : ◌≡◌ {A = ℕ} 0 1 = cc in omega 
 
 -- pairs that are not refused are good
 sound : (qs ps : List Pair) (p : ℕ) → length ps ≤ 64 → Distinct ps → refused_from ps p qs ≡ None → (length ps + length qs ≤ 64) × All GoodPair qs × Distinct (ps ++ qs)
-sound [] ps p few d h = (omega arith, tt, subst Distinct (sym (append-nil ps)) d)
+sound [] ps p few d h = (omega arith, All-nil GoodPair, subst Distinct (sym (append-nil ps)) d)
 sound (q ∷ qs) ps p few d h =
     let both = or_none (wrong_pair ps p q) (refused_from (ps ++ q ∷ []) (after_pair p q) qs) h in
     let is = pair_parts ps p q both.0 in
     let pushed = length_push ps q in
     let rest = sound qs (ps ++ q ∷ []) (after_pair p q) (omega arith) (distinct_push ps q d is.2) both.1 in
-    (omega (arith, rest.0), ((is.0, is.3), rest.1), subst Distinct (append_assoc ps (q ∷ []) qs) rest.2)
+    (omega (arith, rest.0), All-cons GoodPair q qs (is.0, is.3) rest.1, subst Distinct (append_assoc ps (q ∷ []) qs) rest.2)
 
 -- and good ones are not refused
 complete : (qs ps : List Pair) (p : ℕ) → length ps + length qs ≤ 64 → All GoodPair qs → Distinct (ps ++ qs) → refused_from ps p qs ≡ None
 complete [] ps p few good d = refl
 complete (q ∷ qs) ps p few good d =
-    let here = right_pair ps p q good.0.0 (omega arith) (distinct_new ps q qs d) good.0.1 in
+    let first = All-head GoodPair q qs good in
+    let here = right_pair ps p q first.0 (omega arith) (distinct_new ps q qs d) first.1 in
     let pushed = length_push ps q in
-    ap (λ w. or_else w (refused_from (ps ++ q ∷ []) (after_pair p q) qs)) here ∙ complete qs (ps ++ q ∷ []) (after_pair p q) (omega arith) good.1 (subst Distinct (sym (append_assoc ps (q ∷ []) qs)) d)
+    ap (λ w. or_else w (refused_from (ps ++ q ∷ []) (after_pair p q) qs)) here ∙ complete qs (ps ++ q ∷ []) (after_pair p q) (omega arith) (All-tail GoodPair q qs good) (subst Distinct (sym (append_assoc ps (q ∷ []) qs)) d)
 
 pub refused_or_good_lem : RefusedOrGood
 refused_or_good_lem p qs = record {

@@ -2,7 +2,7 @@
 use Rattle.std.proofs.Common.{◌≡◌, ℕ, zero, suc, ◌+◌, ◌<◌, ◌≤◌, Bool, true, false, cond, List, [], ◌∷◌, ◌++◌, length, take, drop, All, sym, refl, ap, ◌∙◌, subst, ⊎_elim, append_assoc, append-nil, arith}
 use Rattle.std.specs.Str.{bytes_eq}
 use Rattle.std.proofs.lemmas.List.{drop_at, length-append, length-take-le, take-append-drop}
-use Rattle.std.proofs.lemmas.List.Elements.{All-push}
+use Rattle.std.proofs.lemmas.List.Elements.{All-nil, All-cons, All-head, All-tail, All-push}
 use Rattle.std.proofs.lemmas.Slice.Eq.{bytes_eq-Decides}
 use Rattle.std.proofs.lemmas.Bool.Decides.{not_from_Decides}
 use Rattle.std.proofs.lemmas.Bool.{lt-ltb, le-ltb, eq-eqb, ne_eqb, cond-true, cond-false, cases_Bool, cases_lt, or_from, or_parts}
@@ -21,8 +21,8 @@ use Rattle.record.proofs.Fields.{body_field, past_field, head_name, head_end, va
 use Rattle.record.proofs.Turns.{reads_end, reads_pair}
 
 all_mid : {X : Type 0} (P : X → Type 0) (xs : List X) (y : X) (ys : List X) → All P (xs ++ y ∷ ys) → P y
-all_mid P [] y ys h = h.0
-all_mid P (x ∷ xs) y ys h = all_mid P xs y ys h.1
+all_mid P [] y ys h = All-head P y ys h
+all_mid P (x ∷ xs) y ys h = all_mid P xs y ys (All-tail P x (xs ++ y ∷ ys) h)
 
 -- a name that comes later is not among the earlier ones
 pub distinct_new : (ps : List Pair) (q : Pair) (qs : List Pair) → Distinct (ps ++ q ∷ qs) → named q.0 ps ≡ false
@@ -33,7 +33,7 @@ distinct_new (p ∷ ps) q qs d =
 
 -- and one that is not keeps them distinct
 pub distinct_push : (ps : List Pair) (q : Pair) → Distinct ps → named q.0 ps ≡ false → Distinct (ps ++ q ∷ [])
-distinct_push [] q d e = (tt, tt)
+distinct_push [] q d e = (All-nil (λ x. q.0 ≡ x.0 → ⊥), tt)
 distinct_push (p ∷ ps) q d e =
     let parts = or_parts (bytes_eq p.0 q.0) (named q.0 ps) e in
     (All-push (λ x. p.0 ≡ x.0 → ⊥) ps q d.0 (not_from_Decides _ (bytes_eq-Decides p.0 q.0) parts.0), distinct_push ps q d.1 parts.1)
@@ -68,9 +68,10 @@ written [] room ps p after few good d = (p, reads_end ps p (packed [] ++ after) 
 written (q ∷ qs) zero ps p after few good d = absurd (omega arith)
 written (q ∷ qs) (suc room) ps p after few good d =
     let p' = after_pair p q in
+    let here = All-head GoodPair q qs good in
     let joined = append_assoc ps (q ∷ []) qs in
-    let more = written qs room (ps ++ q ∷ []) p' after (omega arith) good (subst Distinct (sym joined) d) in
-    let step = reads_written room ps p q (packed qs ++ after) good.0.0 (distinct_new ps q qs d) good.0.1 in
+    let more = written qs room (ps ++ q ∷ []) p' after (omega arith) (All-tail GoodPair q qs good) (subst Distinct (sym joined) d) in
+    let step = reads_written room ps p q (packed qs ++ after) here.0 (distinct_new ps q qs d) here.1 in
     let long = packed_more q qs in
     (more.0, ap (reads (suc room) ps p) (packed_split q qs after) ∙ step ∙ more.1 ∙ ap (λ l. found l more.0 (more.0 + 3)) joined, omega (arith, more.2))
 
@@ -95,7 +96,7 @@ was_ended room ps p bs qs e m d h c =
     let pairs : ps ≡ qs = cc in
     let place : p ≡ e = cc in
     let after : p + 3 ≡ m = cc in
-    record { more = []; after = drop (3 + 0) bs; is = sym pairs ∙ sym (append-nil ps); few = omega arith; good = tt; distinct = subst Distinct pairs d; stands = was_field 3 0 bs (omega arith) (was_end p bs (split bs) h); ends = omega arith; next = sym after }
+    record { more = []; after = drop (3 + 0) bs; is = sym pairs ∙ sym (append-nil ps); few = omega arith; good = All-nil GoodPair; distinct = subst Distinct pairs d; stands = was_field 3 0 bs (omega arith) (was_end p bs (split bs) h); ends = omega arith; next = sym after }
 
 -- a pair, and what comes after it
 was_pair : (room : ℕ) (ps : List Pair) (p : ℕ) (bs : List ℕ) (qs : List Pair) (e m n v : ℕ) → head_of p bs ≡ Name n → value_of (p + (3 + n)) (drop (3 + n) bs) ≡ Bytes v → Was room (ps ++ ((body n bs, body v (drop (3 + n) bs)) ∷ [])) (p + (3 + n) + (3 + v)) (drop (3 + v) (drop (3 + n) bs)) qs e m → Was (suc room) ps p bs qs e m
@@ -118,7 +119,7 @@ was_pair room ps p bs qs e m n v h g w =
       after = w.after;
       is = w.is ∙ append_assoc ps (q ∷ []) qs';
       few = omega (arith, w.few);
-      good = ((name.1, omega arith), w.good);
+      good = All-cons GoodPair q qs' (name.1, omega arith) w.good;
       distinct = w.distinct;
       stands = first ∙ ap (λ l. field 1 a ++ l) (second ∙ ap (λ l. field 2 b ++ l) w.stands) ∙ sym (packed_split q qs' w.after);
       ends = w.ends;

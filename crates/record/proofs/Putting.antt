@@ -1,6 +1,7 @@
 -- Fields that are put at the end of a file. Assumes nothing.
 use Rattle.std.proofs.Common.{◌≡◌, ℕ, ◌+◌, ◌/◌, ◌%◌, ◌<◌, ◌≤◌, List, [], ◌∷◌, ◌++◌, length, get_or, drop, All, sym, ap, ◌∙◌, subst, append_assoc, arith}
 use Rattle.std.proofs.lemmas.List.{at_drop_more, at_drop_all, length-append}
+use Rattle.std.proofs.lemmas.List.Elements.{All-head, All-tail}
 use Rattle.record.specs.declared.writer.Pair.{Pair as Lent}
 use Rattle.record.specs.Format.{Pair, field, packed, GoodPair}
 use Rattle.record.specs.Writing.{pair_in, pairs_in}
@@ -30,7 +31,10 @@ module _ {ls : List Lent} {was file : List ℕ} {cap i : ℕ} (s : Putting ls wa
     due = at_drop_more (λ l. packed (pairs_in l)) ls i d h
 
     is_good : GoodPair q × All GoodPair (pairs_in (drop (i + 1) ls))
-    is_good = let P : List Lent → Type 0 = λ l. All GoodPair (pairs_in l) in subst P (at_drop_more (λ l. l) ls i d h) s.good
+    is_good =
+        let P : List Lent → Type 0 = λ l. All GoodPair (pairs_in l) in
+        let all = subst P (at_drop_more (λ l. l) ls i d h) s.good in
+        (All-head GoodPair q (pairs_in (drop (i + 1) ls)) all, All-tail GoodPair q (pairs_in (drop (i + 1) ls)) all)
 
     long : length (packed (pairs_in (drop i ls))) ≡ 3 + length q.0 + (3 + length q.1) + length rest
     long = ap length due ∙ packed_more q (pairs_in (drop (i + 1) ls))

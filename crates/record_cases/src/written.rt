@@ -30,7 +30,7 @@ fn refuses(rt: &HostRuntime, pairs: &[Pair<'_>], number: u8, place: usize) -> an
         Err(Unwritten::Refused(fault)) => fault.number() == number && fault.place() == place,
         _ => false,
     };
-    Ok(refused && file.as_slice() == b"..")
+    Ok(refused && file.as_slice() == b"..".as_slice())
 }
 
 pub fn run_written(rt: &HostRuntime, tally: &mut Tally) -> anyhow::Result<()> {
@@ -38,7 +38,7 @@ pub fn run_written(rt: &HostRuntime, tally: &mut Tally) -> anyhow::Result<()> {
     let written = write_record(&mut file, &[HI, EMPTY]).is_ok();
     let bytes = b"..\x01\x00\x01a\x02\x00\x02hi\x01\x00\x03b_2\x02\x00\x00\x03\x00\x00";
     let right = written
-        && file.as_slice() == bytes
+        && file.as_slice() == bytes.as_slice()
         && stands(file.as_slice(), 2, Expected::Found(2, 20, 23));
     tally.tell(rt, "written and read back", right)?;
     let right = refuses(rt, &[HI, BAD], 23, 11)?;
