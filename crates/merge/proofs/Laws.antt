@@ -1,5 +1,6 @@
 -- A merged text reads as its record: what the binds of a record's values leave on the sheet.
 use Rattle.std.proofs.Common.{◌≡◌, ℕ, zero, suc, ◌+◌, ◌<◌, ◌≤◌, List, [], ◌∷◌, length, take, drop, set, Some, None, Ok, Err, All, Option, Result, sym, refl, ap, ◌∙◌, subst, arith, length-set, get_or-set_other}
+use Rattle.std.proofs.lemmas.List.Elements.{All-nil, All-cons}
 use mathlib.Core.Path.{fun_ext}
 use lib.Seq.{take-append_seam}
 use Rattle.host.specs.Meaning.{Meaning, Sound}
@@ -66,6 +67,10 @@ record Left (ps : List Pair) (st : State) (k : ℕ) (ns : List (List ℕ)) (st' 
   from : (j : ℕ) → value_at st'.rows (k + j) ≡ named_value ps ns j
   each : All (λ n. value_of n ps ≡ None → ⊥) ns
 
+-- the pairs have a value of a name
+abbrev Named : List Pair → List ℕ → Type 0
+Named ps n = value_of n ps ≡ None → ⊥
+
 no_value : {x : List ℕ} {o : Option (List ℕ)} → o ≡ Some x → o ≡ None → ⊥
 no_value e f = nothing (sym f ∙ e)
 
@@ -75,7 +80,7 @@ left m d ps e st k [] st' fits empty f =
     record {
       before = λ i lt. ap (λ (x : State). value_at x.rows i) (sym same);
       from = λ j. ap (λ (x : State). value_at x.rows (k + j)) (sym same) ∙ empty j;
-      each = tt;
+      each = All-nil (Named ps);
     }
 left m d ps e st k (n ∷ ns) st' fits empty f =
     let s = stepped (bind_named_lem m d e st k (value_of n ps)) (λ x. bind_all m d ps e x (k + 1) ns) st' f in
@@ -89,7 +94,7 @@ left m d ps e st k (n ∷ ns) st' fits empty f =
     record {
       before = λ i less. more.before i (omega arith) ∙ elsewhere st.rows k i _ (λ q. omega arith);
       from = by v b.there lt more;
-      each = (no_value b.there, more.each);
+      each = All-cons (Named ps) n ns (no_value b.there) more.each;
     }
   where
     by : (v : List ℕ) → value_of n ps ≡ Some v → k < length st.rows → Left ps (filled st k v) (k + 1) ns st' → (j : ℕ) → value_at st'.rows (k + j) ≡ named_value ps (n ∷ ns) j

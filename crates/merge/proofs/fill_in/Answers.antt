@@ -7,7 +7,6 @@ use Rattle.printer.specs.Held.{State, opened}
 use Rattle.template.specs.declared.survey.Survey.{Survey}
 use Rattle.merge.specs.Answers.{completed_of, weighed_one, laid_over, record_pairs}
 use Rattle.merge.proofs.Steps.{unbound, unfinished, answered, laid_out}
-use Rattle.merge.proofs.fill_in.Given as given
 use Rattle.merge.proofs.fill_in.Goals as goal
 
 -- a filling of as many holes as the survey has

@@ -9,8 +9,8 @@ use Rattle.merge.specs.Merging.{with_pairs}
 use Rattle.merge.proofs.Steps.{found_answer, found_text, checked_is}
 use Rattle.merge.proofs.merge_on.Goals as goal
 
-pub returns-in_err-merged : goal.returns-in_err-merged
-returns-in_err-merged g c =
+pub returns-in_err-merged-in-Found : goal.returns-in_err-merged-in-Found
+returns-in_err-merged-in-Found g c =
     let a = c.args in
     let m = g.H.Host.meaning a.sheet.now.host in
     let t = a.template.template.now in
@@ -20,9 +20,9 @@ returns-in_err-merged g c =
     let judged : verdict m t ≡ survey_of s = sym (c.in_ok-checked.ensures.survey refl ∙ ap (λ (k : Meaning). verdict k t) same) in
     let given : c.in_ok-checked.checked.template.now ≡ t = checked_is c.in_ok-checked.checked t _ c.in_ok-checked.ensures.answer in
     let filled : List ℕ → Result (ℕ × List ℕ) Refusal = λ u. with_pairs m (survey_of s) u s.holes (length a.out.now) (record_pairs a.input.now r) r.end r.next in
-    let p = err_from_is_err_and c.from_residual-in_err-merged.result c.from_residual-in_err-merged.ensures.1 in
+    let p = err_from_is_err_and c.from_residual-in_err-merged-in-Found.result c.from_residual-in_err-merged-in-Found.ensures.1 in
     record {
-      answer = ap merged_of p.1 ∙ ap (λ (f : Fault). Err (refusal_of f)) p.2 ∙ found_answer m t a.input.now a.place (length a.out.now) s judged r c.in-Found.is c.record-found.ensures.reads (Err c.in_err-merged.field-0.0) (c.in_err-merged.ensures.answer ∙ ap (λ (u : List ℕ). weighed_one (filled u)) given);
+      answer = ap merged_of p.1 ∙ ap (λ (f : Fault). Err (refusal_of f)) p.2 ∙ found_answer m t a.input.now a.place (length a.out.now) s judged r c.in-Found.is c.record-found.ensures.reads (Err c.in_err-merged-in-Found.field-0.0) (c.in_err-merged-in-Found.ensures.answer ∙ ap (λ (u : List ℕ). weighed_one (filled u)) given);
       text = found_text m t a.input.now a.place (length a.out.now) s judged r c.in-Found.is c.record-found.ensures.reads a.out.now c.fill_in.new.out (c.fill_in.ensures.text ∙ ap (λ (u : List ℕ). laid_over a.out.now (filled u)) given);
       host = c.fill_in.ensures.host;
     }
