@@ -42,20 +42,20 @@ pub record WorkedCases : Type 0 where
   pub empty_in_sql : EmptyTemplate sql
   pub empty_in_csv : EmptyTemplate csv
   -- An empty value is a word of its own.
-  pub shell-empty-value :
+  pub shell_empty_value :
       PrintedAndRead shell (all_holes (codes "")) (codes "echo @{a}") (codes "echo ''") (token 1 (codes "echo") ∷ token 1 (codes "") ∷ [])
   -- Between double quotes a dollar sign gets a backslash.
-  pub shell-dollar-in-quotes :
+  pub shell_dollar_in_quotes :
       PrintedAndRead shell (all_holes (codes "$5")) (codes "\"@{a}\"") (codes "\"\\$5\"") (token 1 (codes "$5") ∷ [])
   -- The opening quote of the second hole would double the closing one of the first.
   pub sql_hole_after_hole : verdict sql (codes "@{a}@{b}") ≡ refused (report 7 4)
   -- With a quote between them two holes are one text, with that quote in it.
-  pub sql-quote-between-holes :
+  pub sql_quote_between_holes :
       PrintedAndRead sql (first_and_rest (codes "x") (codes "y")) (codes "@{a}'@{b}'") (codes "'x''y'") (token 2 (codes "x'y") ∷ [])
   -- A bare field turns a comma away, and a quoted one takes it.
   pub csv_comma_in_bare_field : judged_bind csv (codes "a@{v}") (opened 1) 0 (codes ",") ≡ Some (of_hole 13 0 0)
   pub csv_comma_in_quotes : judged_bind csv (codes "\"a@{v}\"") (opened 1) 0 (codes ",") ≡ None
-  pub csv-comma-printed :
+  pub csv_comma_printed :
       PrintedAndRead csv (all_holes (codes ",")) (codes "\"a@{v}\"") (codes "\"a,\"") (token 1 (codes "a,") ∷ token 2 (codes "") ∷ [])
   -- No letter follows the quote that a hole closes with.
   pub csv_byte_after_hole : verdict csv (codes "@{v}a") ≡ refused (report 6 4)

@@ -1,4 +1,4 @@
--- What a refusal says. Every contract speaks of refusals through `refusalOf` and `flawOf`.
+-- What a refusal says. Every contract speaks of refusals through `refusal_of` and `flaw_of`.
 use Rattle.std.specs.Prelude.{ℕ, Some, None, Ok, Err, Option, Result}
 use Rattle.fault.specs.declared.flaw.Flaw.{Flaw}
 use Rattle.fault.specs.declared.flaw.Flaw.TheVariants.{TooLong, StrayAt, BadName, TooManyHoles, LiteralRefused, HoleRefused, EndRefused}

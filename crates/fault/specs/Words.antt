@@ -1,5 +1,5 @@
 -- How refusals are written: the number, the hole if one is named, the place and a sentence.
-use Rattle.std.specs.Prelude.{ℕ, List, [], ◌++◌, Some, None, codes, decimal, Option}
+use Rattle.std.specs.Prelude.{ℕ, List, ◌++◌, Some, None, codes, decimal, Option}
 use Rattle.fault.specs.declared.flaw.Flaw.{Flaw}
 use Rattle.fault.specs.declared.flaw.Flaw.TheVariants.{TooLong, StrayAt, BadName, TooManyHoles, LiteralRefused, HoleRefused, EndRefused}
 use Rattle.fault.specs.declared.fault.Fault.{Fault}
@@ -38,17 +38,23 @@ fault_words_lem (NameTwice p) = codes "the record has this name already"
 fault_words_lem (EndWithLength p) = codes "the end of a record has length 0"
 fault_words_lem (NameMissing k p) = codes "the record has no value of this hole's name"
 
--- the hole that a refusal names, if it names one
-abbrev pub hole_words : Option ℕ → List ℕ
-hole_words None = []
-hole_words (Some k) = codes " hole " ++ decimal k
-
--- what a refusal carries of another, if it carries one
-abbrev pub carried_words : Option Report → List ℕ
-carried_words None = []
-carried_words (Some r) = codes " (carries " ++ (decimal r.number ++ (codes " place " ++ (decimal r.place ++ codes ")")))
-
+-- The line of a refusal that names no hole and carries none: the number, the place and a sentence.
 abbrev pub fault_line : Fault → List ℕ
-fault_line f =
-    let r = refusal_of f in
-    decimal r.number ++ (hole_words r.hole ++ (codes " place " ++ (decimal r.place ++ (codes ": " ++ (fault_words_lem f ++ carried_words r.carried)))))
+fault_line f = decimal (refusal_of f).number ++ (codes " place " ++ (decimal (refusal_of f).place ++ (codes ": " ++ fault_words_lem f)))
+
+-- The line of one that names a hole, after the number.
+abbrev pub hole_line : ℕ → Fault → List ℕ
+hole_line k f = decimal (refusal_of f).number ++ (codes " hole " ++ (decimal k ++ (codes " place " ++ (decimal (refusal_of f).place ++ (codes ": " ++ fault_words_lem f)))))
+
+-- What a refusal carries of another.
+abbrev pub carried_words : Report → List ℕ
+carried_words r = codes " (carries " ++ (decimal r.number ++ (codes " place " ++ (decimal r.place ++ codes ")")))
+
+abbrev pub line_by : Option ℕ → Option Report → Fault → List ℕ
+line_by None None f = fault_line f
+line_by None (Some r) f = fault_line f ++ carried_words r
+line_by (Some k) c f = hole_line k f
+
+-- How a refusal is written: with the hole if it names one, and with what it carries if it carries another.
+abbrev pub refusal_line : Fault → List ℕ
+refusal_line f = line_by (refusal_of f).hole (refusal_of f).carried f

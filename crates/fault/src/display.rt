@@ -1,7 +1,7 @@
 // Refusals as text: the number, the hole if one is named, the place and a sentence.
 ghost use Rattle.std.specs.Prelude.{◌≡◌, Some};
 ghost use Rattle.fault.specs.declared.fault.Fault.TheVariants.{Template};
-ghost use Rattle.fault.specs.Words.{flaw_words_lem, fault_words_lem, fault_line};
+ghost use Rattle.fault.specs.Words.{flaw_words_lem, fault_words_lem, fault_line, refusal_line};
 
 use crate::fault::Fault;
 use crate::flaw::Flaw;
@@ -51,7 +51,7 @@ fn fault_words(fault: &Fault) -> &'static str
 }
 
 impl fmt::Display for Fault {
-    ghost output = { λ fault. Some (fault_line fault) };
+    ghost output = { λ fault. Some (refusal_line fault) };
 
     fn fmt<W: fmt::Write>(&self, f: &mut fmt::Formatter<W>) -> fmt::Result {
         let number = self.number();

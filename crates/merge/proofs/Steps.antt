@@ -13,7 +13,7 @@ use Rattle.template.specs.Lexing.{Lexed, byte, hole, end, fault, lexed_from}
 use Rattle.template.proofs.Accepted.{accepted_is}
 use Rattle.template.proofs.Reading.{items_of, nothing, chain_some}
 use Rattle.record.specs.declared.shape.Record.{Record}
-use Rattle.record.specs.declared.shape.State.{State as Found-or-not}
+use Rattle.record.specs.declared.shape.State.{State as FoundOrNot}
 use Rattle.record.specs.declared.shape.State.TheVariants.{Found}
 use Rattle.record.specs.Answers.{value_of, answer, by_state}
 use Rattle.record.specs.Reading.{read_at}
@@ -50,14 +50,14 @@ laid_with : (next : ℕ) (old : List ℕ) (x : Result (List ℕ) Refusal) → ou
 laid_with next old (Ok w) = refl
 laid_with next old (Err r) = refl
 
-module _ (m : Meaning) (t : List ℕ) (s : Survey) (judged : verdict m t ≡ survey_of s) (ps : List Pair) (e next room : ℕ) (m₁ : Meaning) (same : m₁ ≡ m) (t₁ : List ℕ) (is : t₁ ≡ t) (st₀ st₁ : State) (opened-as : st₀ ≡ opened s.holes) (r : Result (Unit {0}) Fault) (came : came_to r st₁ ≡ bind_pieces m₁ (survey_of s) ps e st₀ 0 (lexed_from t₁ 0)) where
+module _ (m : Meaning) (t : List ℕ) (s : Survey) (judged : verdict m t ≡ survey_of s) (ps : List Pair) (e next room : ℕ) (m₁ : Meaning) (same : m₁ ≡ m) (t₁ : List ℕ) (is : t₁ ≡ t) (st₀ st₁ : State) (opened_as : st₀ ≡ opened s.holes) (r : Result (Unit {0}) Fault) (came : came_to r st₁ ≡ bind_pieces m₁ (survey_of s) ps e st₀ 0 (lexed_from t₁ 0)) where
   bound : bind_all m (survey_of s) ps e (opened s.holes) 0 (names t) ≡ came_to r st₁
   bound =
       let a = accepted_is m t s.holes (bodies_of s) judged in
       sym (pieces_named m (survey_of s) ps e (lexed_from t 0) _ (opened s.holes) 0 a.read)
       ∙ ap (λ (u : List ℕ). bind_pieces m (survey_of s) ps e (opened s.holes) 0 (lexed_from u 0)) (sym is)
       ∙ ap (λ (k : Meaning). bind_pieces k (survey_of s) ps e (opened s.holes) 0 (lexed_from t₁ 0)) (sym same)
-      ∙ ap (λ (st : State). bind_pieces m₁ (survey_of s) ps e st 0 (lexed_from t₁ 0)) (sym opened-as)
+      ∙ ap (λ (st : State). bind_pieces m₁ (survey_of s) ps e st 0 (lexed_from t₁ 0)) (sym opened_as)
       ∙ sym came
 
   pub unbound : (f : Fault) → r ≡ Err f → with_pairs m (survey_of s) t s.holes room ps e next ≡ Err (refusal_of f)
@@ -98,7 +98,7 @@ written_some old (Err r) = refl
 module _ (m : Meaning) (t input : List ℕ) (place room : ℕ) (s : Survey) (judged : verdict m t ≡ survey_of s) (r : Record) (is : r.state ≡ Found) (reads : answer input r ≡ read_at input place) where
   comes_found : after (λ y. Some y) (with_pairs m (survey_of s) t s.holes room (record_pairs input r) r.end r.next) ≡ merged m t input place room
   comes_found =
-      ap (with_record m (survey_of s) t s.holes room) (sym (ap (λ (x : Found-or-not). by_state x input r) is) ∙ reads)
+      ap (with_record m (survey_of s) t s.holes room) (sym (ap (λ (x : FoundOrNot). by_state x input r) is) ∙ reads)
       ∙ sym (ap (λ (d : Verdict). merged_by d m t input place room) judged)
 
   pub found_answer : (x : Result Merged Fault) → completed_of x ≡ weighed_one (with_pairs m (survey_of s) t s.holes room (record_pairs input r) r.end r.next) → after (λ y. Some y) (completed_of x) ≡ weighed (merged m t input place room)

@@ -58,10 +58,10 @@ follows m c value part at i room lt lies left =
     go (m.spelling c (get_or value i 0)) (spelled m c (drop (i + 1) value)) refl refl w.0 w.1 w.2 e
   where
     go : (o q : Option (List ℕ)) → m.spelling c (get_or value i 0) ≡ o → spelled m c (drop (i + 1) value) ≡ q → (w : List ℕ) → spelled m c value ≡ Some w → at + length w ≤ room → spelled m c value ≡ chain (chain (m.spelling c (get_or value i 0)) (λ s. chain (spelled m c (drop (i + 1) value)) (λ t. Some (s ++ t)))) (λ t. Some (part ++ t)) → Next m c value part at i room
-    go None q h k w is room-left e = absurd (nothing (sym (e ∙ ap (λ x. chain (chain x (λ s. chain (spelled m c (drop (i + 1) value)) (λ t. Some (s ++ t)))) (λ t. Some (part ++ t))) h) ∙ is))
-    go (Some s) None h k w is room-left e =
+    go None q h k w is room_left e = absurd (nothing (sym (e ∙ ap (λ x. chain (chain x (λ s. chain (spelled m c (drop (i + 1) value)) (λ t. Some (s ++ t)))) (λ t. Some (part ++ t))) h) ∙ is))
+    go (Some s) None h k w is room_left e =
         absurd (nothing (sym (e ∙ ap (λ x. chain (chain x (λ s. chain (spelled m c (drop (i + 1) value)) (λ t. Some (s ++ t)))) (λ t. Some (part ++ t))) h ∙ ap (λ x. chain (chain x (λ t. Some (s ++ t))) (λ t. Some (part ++ t))) k) ∙ is))
-    go (Some s) (Some u) h k w is room-left e =
+    go (Some s) (Some u) h k w is room_left e =
         let f = e ∙ ap (λ x. chain (chain x (λ s. chain (spelled m c (drop (i + 1) value)) (λ t. Some (s ++ t)))) (λ t. Some (part ++ t))) h ∙ ap (λ x. chain (chain x (λ t. Some (s ++ t))) (λ t. Some (part ++ t))) k in
         let same : w ≡ part ++ (s ++ u) = the_same (sym is ∙ f) in
         let n = ap length same ∙ length-append part (s ++ u) in
@@ -74,7 +74,7 @@ follows m c value part at i room lt lies left =
         }
 
 module _ (m : Meaning) (c : ℕ) (value old new : List ℕ) (at i end : ℕ) (so : Sofar m c value old new at i end) (lies : Lies at (length old) (spelled m c value)) where
-  -- the host spelt-out the next byte
+  -- the host spells out the next byte
   pub spelt : (s : Spelling) (n : ℕ) → n ≡ s.len → i < length value → spelling_of s ≡ m.spelling c (get_or value i 0) → m.spelling c (get_or value i 0) ≡ Some (take n s.bytes)
   spelt s n is lt e =
       let f = follows m c value so.part at i (length old) lt lies so.left in

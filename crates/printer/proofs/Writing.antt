@@ -20,7 +20,7 @@ refuses e = let z : ◌≡◌ {A = ℕ} 0 1 = cc in omega arith
 pub same_ok : {A : Type 0} {x y : A} → ◌≡◌ {A = Result A Refusal} (Ok x) (Ok y) → x ≡ y
 same_ok e = cc
 
--- a value that a body spelt-out
+-- a value that a body spells out
 pub spelled_ok : (m : Meaning) (c k i : ℕ) (bs w : List ℕ) → spelt_out m c k i bs ≡ Ok w → spelled m c bs ≡ Some w
 spelled_ok m c k i [] w e = ap Some (same_ok e)
 spelled_ok m c k i (b ∷ bs) w e = go (m.spelling c b) (spelt_out m c k (i + 1) bs) refl (λ t j. spelled_ok m c k (i + 1) bs t j) refl e

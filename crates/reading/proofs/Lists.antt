@@ -102,8 +102,8 @@ module _ (old : List ℕ) where
       let two = do_middle e.middle one in
       let first = cursor_close e.first s in
       let middle : cursor_of two ≡ keep_cursor e.middle (close_cursor e.first k) = cursor_middle e.middle one ∙ ap (keep_cursor e.middle) first in
-      let up-middle = keep_reach e.middle (close_cursor e.first k) in
-      let up-last = close_reach e.last (keep_cursor e.middle (close_cursor e.first k)) in
+      let up_middle = keep_reach e.middle (close_cursor e.first k) in
+      let up_last = close_reach e.last (keep_cursor e.middle (close_cursor e.first k)) in
       let a = lay_close e.first s (omega arith) in
       let b = lay_middle e.middle one (subst (λ q. reach (keep_cursor e.middle q) ≤ length old) (sym first) (omega arith)) in
       let c = lay_close e.last two (subst (λ q. reach (close_cursor e.last q) ≤ length old) (sym middle) fits) in

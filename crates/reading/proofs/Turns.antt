@@ -135,13 +135,13 @@ pub total_of : (r : Result ℕ Fault) (n : ℕ) → Fits r n → Total r n
 total_of (Ok t) n h = record { total = t; is = refl; within = h }
 total_of (Err f) n h = absurd h
 
-module _ (m : Meaning) (sound : Sound m) (text : List ℕ) (i c : ℕ) (k : Cursor) (n : ℕ) (open-held : OpenHeld m c k) (whole : Result ℕ Fault) (inv : measured m (drop i text) c k i ≡ whole) (fits : Fits whole n) where
+module _ (m : Meaning) (sound : Sound m) (text : List ℕ) (i c : ℕ) (k : Cursor) (n : ℕ) (open_held : OpenHeld m c k) (whole : Result ℕ Fault) (inv : measured m (drop i text) c k i ≡ whole) (fits : Fits whole n) where
   -- what an effect writes lies in the output
   pub step_fits : i < length text → (s : ℕ × Effect) → Some s ≡ m.step c (get_or text i 0) → reach (after_cursor s.1 k) ≤ n
   step_fits inside s e =
       let t = total_of whole n fits in
       let rest = measured_more m text i c k inside whole inv s e in
-      let held = within m sound (drop (i + 1) text) s.0 (after_cursor s.1 k) (i + 1) t.total (open_more m sound c (get_or text i 0) k s e open-held) (rest ∙ t.is) in
+      let held = within m sound (drop (i + 1) text) s.0 (after_cursor s.1 k) (i + 1) t.total (open_more m sound c (get_or text i 0) k s e open_held) (rest ∙ t.is) in
       omega arith
 
   pub end_fits : length text ≤ i → (e : Effect) → Some e ≡ m.end c → reach (after_cursor e k) ≤ n
@@ -149,7 +149,7 @@ module _ (m : Meaning) (sound : Sound m) (text : List ℕ) (i c : ℕ) (k : Curs
       let t = total_of whole n fits in
       let is : Ok (after_cursor e k).at ≡ Ok t.total = measured_ends m text i c k all whole inv e q ∙ t.is in
       let at : (after_cursor e k).at ≡ t.total = cc in
-      let none = end_empty m sound c k e q open-held in
+      let none = end_empty m sound c k e q open_held in
       omega arith
 
 -- a turn of writing

@@ -6,7 +6,7 @@ use Rattle.fault.specs.declared.fault.Fault.{Fault}
 use Rattle.fault.specs.declared.fault.Fault.TheVariants.{BadRecordName, RecordValueTooLong}
 use Rattle.fault.specs.Refusal.{Refusal, refusal_of, plain}
 use Rattle.record.specs.declared.writer.Unwritten.{Unwritten}
-use Rattle.record.specs.declared.writer.Unwritten.TheVariants.{Refused as Unwritten-refused, NoMemory}
+use Rattle.record.specs.declared.writer.Unwritten.TheVariants.{Refused as UnwrittenRefused, NoMemory}
 use Rattle.record.specs.Names.{good_name}
 use Rattle.record.specs.Format.{Pair, field, packed}
 use Rattle.record.specs.Reading.{Answer, refused, value_of, body, named, reads, read_at}
@@ -100,7 +100,7 @@ module _ (room : ℕ) (before : List ℕ) (ps : List Pair) (n : ℕ) where
       let P : Result (Unit {0}) Unwritten → Type 0 = Wrote room before after ps in
       subst P (sym is) (record { refuses = sym right.0; bytes = same; memory = omega (arith, right.1); kept = tt })
 
-pub not_taken : (room : ℕ) (before : List ℕ) (ps : List Pair) (r : Result (Unit {0}) Unwritten) (f : Fault) → r ≡ Err (Unwritten-refused f) → Err (refusal_of f) ≡ verdict (refused_pairs (length before) ps) (length (packed ps)) → Wrote room before before ps r
+pub not_taken : (room : ℕ) (before : List ℕ) (ps : List Pair) (r : Result (Unit {0}) Unwritten) (f : Fault) → r ≡ Err (UnwrittenRefused f) → Err (refusal_of f) ≡ verdict (refused_pairs (length before) ps) (length (packed ps)) → Wrote room before before ps r
 not_taken room before ps r f is judged =
     let P : Result (Unit {0}) Unwritten → Type 0 = Wrote room before before ps in
     subst P (sym is) (record { refuses = sym (verdict_err _ _ (refusal_of f) judged); bytes = refl; memory = tt; kept = tt })

@@ -4,8 +4,8 @@ use Rattle.std.proofs.lemmas.List.{take_at, drop_at, drop-drop, length-append, l
 use Rattle.std.proofs.lemmas.Bool.{le-leb, lt-leb, cond-true, cond-false, and_parts, ltb-true}
 use Rattle.std.proofs.lemmas.Bool.Decides.{nat_tests}
 use Rattle.fault.specs.declared.fault.Fault.TheVariants.{UnknownTag, TagOutOfTurn, BadRecordName, RecordValueTooLong, EndWithLength}
-use Rattle.record.specs.declared.field.Head.TheVariants.{Name, End, Refused as bad-head}
-use Rattle.record.specs.declared.field.Value.TheVariants.{Bytes, Refused as bad-value}
+use Rattle.record.specs.declared.field.Head.TheVariants.{Name, End, Refused as bad_head}
+use Rattle.record.specs.declared.field.Value.TheVariants.{Bytes, Refused as bad_value}
 use Rattle.record.specs.Names.{lower, tail_bytes, good_name}
 use Rattle.record.specs.Format.{field}
 use Rattle.record.specs.Reading.{split, body, judged_head, judged_value, head_of, value_of}
@@ -34,10 +34,10 @@ pub value_bytes : (p : ℕ) (xs rest : List ℕ) → length xs ≤ 160 → value
 value_bytes p xs rest short = ap (judged_value p) (split_field_lem 2 xs rest) ∙ cond-true _ _ _ (le-leb (length xs) 160 short)
 
 -- what is refused of a written field
-pub head_bad_name : (p : ℕ) (xs rest : List ℕ) → good_name xs ≡ false → head_of p (field 1 xs ++ rest) ≡ bad-head (BadRecordName p)
+pub head_bad_name : (p : ℕ) (xs rest : List ℕ) → good_name xs ≡ false → head_of p (field 1 xs ++ rest) ≡ bad_head (BadRecordName p)
 head_bad_name p xs rest bad = ap (judged_head p (field 1 xs ++ rest)) (split_field_lem 1 xs rest) ∙ cond-false _ _ _ (ap good_name (body_field 1 xs rest) ∙ bad)
 
-pub value_long : (p : ℕ) (xs rest : List ℕ) → 160 < length xs → value_of p (field 2 xs ++ rest) ≡ bad-value (RecordValueTooLong p)
+pub value_long : (p : ℕ) (xs rest : List ℕ) → 160 < length xs → value_of p (field 2 xs ++ rest) ≡ bad_value (RecordValueTooLong p)
 value_long p xs rest long = ap (judged_value p) (split_field_lem 2 xs rest) ∙ cond-false _ _ _ (lt-leb (length xs) 160 long)
 
 no_none : {A : Type 0} {x : A} → None ≡ Some x → ⊥
@@ -71,20 +71,20 @@ was_field t n (x ∷ y ∷ z ∷ cs) h e =
     λ i. parts.1 i ∷ high i ∷ low i ∷ rest i
 
 -- what a head or a value that is taken was
-name_parts : (p n t k : ℕ) (g : Bool) → cond (eqb t 1) (cond g (Name k) (bad-head (BadRecordName p))) (cond (eqb t 2) (bad-head (TagOutOfTurn p)) (cond (eqb t 3) (cond (eqb k 0) End (bad-head (EndWithLength p))) (bad-head (UnknownTag p)))) ≡ Name n → (t ≡ 1) × (k ≡ n) × (g ≡ true)
+name_parts : (p n t k : ℕ) (g : Bool) → cond (eqb t 1) (cond g (Name k) (bad_head (BadRecordName p))) (cond (eqb t 2) (bad_head (TagOutOfTurn p)) (cond (eqb t 3) (cond (eqb k 0) End (bad_head (EndWithLength p))) (bad_head (UnknownTag p)))) ≡ Name n → (t ≡ 1) × (k ≡ n) × (g ≡ true)
 name_parts p n t k g e =
     let tag : t ≡ 1 = grind (arith, nat_tests) in
     let long : k ≡ n = grind (arith, nat_tests) in
     let good : g ≡ true = grind (arith, nat_tests) in
     (tag, long, good)
 
-end_parts : (p t k : ℕ) (g : Bool) → cond (eqb t 1) (cond g (Name k) (bad-head (BadRecordName p))) (cond (eqb t 2) (bad-head (TagOutOfTurn p)) (cond (eqb t 3) (cond (eqb k 0) End (bad-head (EndWithLength p))) (bad-head (UnknownTag p)))) ≡ End → (t ≡ 3) × (k ≡ 0)
+end_parts : (p t k : ℕ) (g : Bool) → cond (eqb t 1) (cond g (Name k) (bad_head (BadRecordName p))) (cond (eqb t 2) (bad_head (TagOutOfTurn p)) (cond (eqb t 3) (cond (eqb k 0) End (bad_head (EndWithLength p))) (bad_head (UnknownTag p)))) ≡ End → (t ≡ 3) × (k ≡ 0)
 end_parts p t k g e =
     let tag : t ≡ 3 = grind (arith, nat_tests) in
     let none : k ≡ 0 = grind (arith, nat_tests) in
     (tag, none)
 
-value_parts : (p n t k : ℕ) → cond (eqb t 2) (cond (leb k 160) (Bytes k) (bad-value (RecordValueTooLong p))) (cond (eqb t 1) (bad-value (TagOutOfTurn p)) (cond (eqb t 3) (bad-value (TagOutOfTurn p)) (bad-value (UnknownTag p)))) ≡ Bytes n → (t ≡ 2) × (k ≡ n) × (k ≤ 160)
+value_parts : (p n t k : ℕ) → cond (eqb t 2) (cond (leb k 160) (Bytes k) (bad_value (RecordValueTooLong p))) (cond (eqb t 1) (bad_value (TagOutOfTurn p)) (cond (eqb t 3) (bad_value (TagOutOfTurn p)) (bad_value (UnknownTag p)))) ≡ Bytes n → (t ≡ 2) × (k ≡ n) × (k ≤ 160)
 value_parts p n t k e =
     let tag : t ≡ 2 = grind (arith, nat_tests) in
     let long : k ≡ n = grind (arith, nat_tests) in

@@ -9,9 +9,9 @@ use Rattle.std.proofs.lemmas.Bool.{lt-ltb, le-ltb, eq-eqb, ne_eqb, cond-true, co
 use Rattle.fault.specs.declared.fault.Fault.{Fault}
 use Rattle.fault.specs.declared.fault.Fault.TheVariants.{FieldCutShort, TooManyNames, NameTwice}
 use Rattle.record.specs.declared.field.Head.{Head}
-use Rattle.record.specs.declared.field.Head.TheVariants.{Name, End, Refused as bad-head}
+use Rattle.record.specs.declared.field.Head.TheVariants.{Name, End, Refused as bad_head}
 use Rattle.record.specs.declared.field.Value.{Value}
-use Rattle.record.specs.declared.field.Value.TheVariants.{Bytes, Refused as bad-value}
+use Rattle.record.specs.declared.field.Value.TheVariants.{Bytes, Refused as bad_value}
 use Rattle.record.specs.Format.{Pair, field, packed, Distinct, GoodPair, Good, Stands}
 use Rattle.record.specs.Reading.{found, none, faulty, split, body, head_of, value_of, on_head, on_value, named, with_value, with_name, reads, read_at}
 use Rattle.record.specs.Names.{good_name}
@@ -132,7 +132,7 @@ was zero ps p bs qs e m d c = go (head_of p bs) refl c
     go : (h : Head) → head_of p bs ≡ h → on_head h ps p (λ n. faulty (TooManyNames p)) ≡ found qs e m → Was 0 ps p bs qs e m
     go (Name n) i c = absurd (no_fault (TooManyNames p) c)
     go End i c = was_ended 0 ps p bs qs e m d i c
-    go (bad-head f) i c = absurd (no_fault f c)
+    go (bad_head f) i c = absurd (no_fault f c)
 was (suc room) ps p bs qs e m d c = go (was room) (head_of p bs) refl c
   where
     Recur : Type 0
@@ -140,7 +140,7 @@ was (suc room) ps p bs qs e m d c = go (was room) (head_of p bs) refl c
 
     value : Recur → (n : ℕ) → head_of p bs ≡ Name n → named (body n bs) ps ≡ false → (w : Value) → value_of (p + (3 + n)) (drop (3 + n) bs) ≡ w → on_value w (with_value (reads room) ps p bs n) ≡ found qs e m → Was (suc room) ps p bs qs e m
     value recur n h t (Bytes v) i c = was_pair room ps p bs qs e m n v h i (recur _ _ _ qs e m (distinct_push ps (body n bs, body v (drop (3 + n) bs)) d t) c)
-    value recur n h t (bad-value f) i c = absurd (no_fault f c)
+    value recur n h t (bad_value f) i c = absurd (no_fault f c)
 
     name : Recur → (n : ℕ) → head_of p bs ≡ Name n → (t : Bool) → named (body n bs) ps ≡ t → cond t (faulty (NameTwice p)) (on_value (value_of (p + (3 + n)) (drop (3 + n) bs)) (with_value (reads room) ps p bs n)) ≡ found qs e m → Was (suc room) ps p bs qs e m
     name recur n h true i c = absurd (no_fault (NameTwice p) c)
@@ -149,7 +149,7 @@ was (suc room) ps p bs qs e m d c = go (was room) (head_of p bs) refl c
     go : Recur → (h : Head) → head_of p bs ≡ h → on_head h ps p (with_name (reads room) ps p bs) ≡ found qs e m → Was (suc room) ps p bs qs e m
     go recur (Name n) i c = name recur n i (named (body n bs) ps) refl c
     go recur End i c = was_ended (suc room) ps p bs qs e m d i c
-    go recur (bad-head f) i c = absurd (no_fault f c)
+    go recur (bad_head f) i c = absurd (no_fault f c)
 
 -- the tests of a place
 read_inside : (input : List ℕ) (place : ℕ) → place < length input → read_at input place ≡ reads 64 [] place (drop place input)

@@ -42,15 +42,15 @@ module _ {ls : List Lent} {was file : List ℕ} {cap i : ℕ} (s : Putting ls wa
     pub name_fits : (length (get_or ls i d).name.now < 65536) × (length file + (3 + length (get_or ls i d).name.now) ≤ cap)
     name_fits = let short = good_short q.0 is_good.0.0 in (omega arith, omega (arith, s.room, long))
 
-    module _ (one : List ℕ) (cap-one : ℕ) (put : one ≡ file ++ field 1 (get_or ls i d).name.now) (more : cap ≤ cap-one) where
-      pub value_fits : (length (get_or ls i d).value.now < 65536) × (length one + (3 + length (get_or ls i d).value.now) ≤ cap-one)
+    module _ (one : List ℕ) (cap_one : ℕ) (put : one ≡ file ++ field 1 (get_or ls i d).name.now) (more : cap ≤ cap_one) where
+      pub value_fits : (length (get_or ls i d).value.now < 65536) × (length one + (3 + length (get_or ls i d).value.now) ≤ cap_one)
       value_fits =
           let short = is_good.0.1 in
           let grown : length one ≡ length file + length (field 1 q.0) = ap length put ∙ length-append file (field 1 q.0) in
           (omega arith, omega (arith, s.room, long))
 
-      pub turn : (two : List ℕ) (cap-two : ℕ) → two ≡ one ++ field 2 (get_or ls i d).value.now → cap-one ≤ cap-two → Putting ls was two cap-two (i + 1)
-      turn two cap-two again more-two =
+      pub turn : (two : List ℕ) (cap_two : ℕ) → two ≡ one ++ field 2 (get_or ls i d).value.now → cap_one ≤ cap_two → Putting ls was two cap_two (i + 1)
+      turn two cap_two again more_two =
           let both : two ≡ (file ++ field 1 q.0) ++ field 2 q.1 = again ∙ ap (λ l. l ++ field 2 q.1) put in
           let grown : length one ≡ length file + length (field 1 q.0) = ap length put ∙ length-append file (field 1 q.0) in
           let grown_two : length two ≡ length one + length (field 2 q.1) = ap length again ∙ length-append one (field 2 q.1) in

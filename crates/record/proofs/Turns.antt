@@ -5,8 +5,8 @@ use Rattle.std.proofs.lemmas.List.Elements.{All-push}
 use Rattle.record.specs.declared.shape.Entry.{Entry}
 use Rattle.fault.specs.declared.fault.Fault.{Fault}
 use Rattle.fault.specs.declared.fault.Fault.TheVariants.{TooManyNames, NameTwice}
-use Rattle.record.specs.declared.field.Head.TheVariants.{Name, End, Refused as bad-head}
-use Rattle.record.specs.declared.field.Value.TheVariants.{Bytes, Refused as bad-value}
+use Rattle.record.specs.declared.field.Head.TheVariants.{Name, End, Refused as bad_head}
+use Rattle.record.specs.declared.field.Value.TheVariants.{Bytes, Refused as bad_value}
 use Rattle.record.specs.Format.{Pair}
 use Rattle.record.specs.Reading.{Answer, found, faulty, body, head_of, value_of, on_head, on_value, named, with_value, with_name, reads}
 use Rattle.record.specs.Answers.{pair_of, pairs_of, Lies}
@@ -16,7 +16,7 @@ module _ (ps : List Pair) (p : ℕ) (bs : List ℕ) where
   reads_end zero e = ap (λ h. on_head h ps p (λ n. faulty (TooManyNames p))) (sym e)
   reads_end (suc room) e = ap (λ h. on_head h ps p (with_name (reads room) ps p bs)) (sym e)
 
-  pub reads_bad : (room : ℕ) (f : Fault) → bad-head f ≡ head_of p bs → reads room ps p bs ≡ faulty f
+  pub reads_bad : (room : ℕ) (f : Fault) → bad_head f ≡ head_of p bs → reads room ps p bs ≡ faulty f
   reads_bad zero f e = ap (λ h. on_head h ps p (λ n. faulty (TooManyNames p))) (sym e)
   reads_bad (suc room) f e = ap (λ h. on_head h ps p (with_name (reads room) ps p bs)) (sym e)
 
@@ -34,7 +34,7 @@ module _ (ps : List Pair) (p : ℕ) (bs : List ℕ) where
       reads_new : named (body n bs) ps ≡ false → reads (suc room) ps p bs ≡ on_value (value_of (p + (3 + n)) (drop (3 + n) bs)) (with_value (reads room) ps p bs n)
       reads_new t = reads_name ∙ ap (λ b. cond b (faulty (NameTwice p)) (on_value (value_of (p + (3 + n)) (drop (3 + n) bs)) (with_value (reads room) ps p bs n))) t
 
-      pub reads_bad_value : (f : Fault) → named (body n bs) ps ≡ false → bad-value f ≡ value_of (p + (3 + n)) (drop (3 + n) bs) → reads (suc room) ps p bs ≡ faulty f
+      pub reads_bad_value : (f : Fault) → named (body n bs) ps ≡ false → bad_value f ≡ value_of (p + (3 + n)) (drop (3 + n) bs) → reads (suc room) ps p bs ≡ faulty f
       reads_bad_value f t v = reads_new t ∙ ap (λ h. on_value h (with_value (reads room) ps p bs n)) (sym v)
 
       pub reads_pair : (v : ℕ) → named (body n bs) ps ≡ false → Bytes v ≡ value_of (p + (3 + n)) (drop (3 + n) bs) → reads (suc room) ps p bs ≡ with_value (reads room) ps p bs n v
@@ -56,7 +56,7 @@ module _ {input : List ℕ} {whole : Answer} {es : List Entry} {count at : ℕ} 
   pub at_end : End ≡ head_of at (drop at input) → found (pairs_of input (take count es)) at (at + 3) ≡ whole
   at_end e = sym (reads_end (pairs_of input (take count es)) at (drop at input) (64 - count) e) ∙ s.left
 
-  pub at_bad : (f : Fault) → bad-head f ≡ head_of at (drop at input) → faulty f ≡ whole
+  pub at_bad : (f : Fault) → bad_head f ≡ head_of at (drop at input) → faulty f ≡ whole
   at_bad f e = sym (reads_bad (pairs_of input (take count es)) at (drop at input) (64 - count) f e) ∙ s.left
 
   module _ (n : ℕ) (e : Name n ≡ head_of at (drop at input)) where
@@ -74,7 +74,7 @@ module _ {input : List ℕ} {whole : Answer} {es : List Entry} {count at : ℕ} 
       at_twice t = sym (reads_twice (pairs_of input (take count es)) at (drop at input) n e (64 - (count + 1)) (ap (λ b. named b (pairs_of input (take count es))) at_name ∙ t)) ∙ room h
 
       module _ (t : named (take n (drop (at + 3) input)) (pairs_of input (take count es)) ≡ false) where
-        pub at_bad_value : (f : Fault) → bad-value f ≡ value_of (at + (3 + n)) (drop (at + (3 + n)) input) → faulty f ≡ whole
+        pub at_bad_value : (f : Fault) → bad_value f ≡ value_of (at + (3 + n)) (drop (at + (3 + n)) input) → faulty f ≡ whole
         at_bad_value f v = sym (reads_bad_value (pairs_of input (take count es)) at (drop at input) n e (64 - (count + 1)) f (ap (λ b. named b (pairs_of input (take count es))) at_name ∙ t) (v ∙ ap (value_of (at + (3 + n))) (sym (drop-drop (3 + n) at input)))) ∙ room h
 
         pub turn : (v : ℕ) (e' : Entry) → Bytes v ≡ value_of (at + (3 + n)) (drop (at + (3 + n)) input) → e' ≡ record { name = record { place = at + 3; len = n }; value = record { place = at + (3 + n) + 3; len = v } } → at + (3 + n) + (3 + v) ≤ length input → Sofar input whole (set es count e') (count + 1) (at + (3 + n) + (3 + v))

@@ -5,9 +5,9 @@ use Rattle.fault.specs.declared.fault.Fault.{Fault}
 use Rattle.fault.specs.declared.fault.Fault.TheVariants.{FieldCutShort, UnknownTag, TagOutOfTurn, BadRecordName, RecordValueTooLong, TooManyNames, NameTwice, EndWithLength}
 use Rattle.record.specs.declared.field.Field.{Field}
 use Rattle.record.specs.declared.field.Head.{Head}
-use Rattle.record.specs.declared.field.Head.TheVariants.{Name, End, Refused as bad-head}
+use Rattle.record.specs.declared.field.Head.TheVariants.{Name, End, Refused as bad_head}
 use Rattle.record.specs.declared.field.Value.{Value}
-use Rattle.record.specs.declared.field.Value.TheVariants.{Bytes, Refused as bad-value}
+use Rattle.record.specs.declared.field.Value.TheVariants.{Bytes, Refused as bad_value}
 use Rattle.fault.specs.Refusal.{Refusal, refusal_of}
 use Rattle.record.specs.Names.{good_name}
 use Rattle.record.specs.Format.{Pair}
@@ -28,21 +28,21 @@ field_of f = cond f.whole (Some (f.tag, f.len)) None
 
 -- A field at the place p, at the front of bs, where a name or the end is due.
 abbrev pub judged_head : ℕ → List ℕ → Option (ℕ × ℕ) → Head
-judged_head p bs None = bad-head (FieldCutShort p)
+judged_head p bs None = bad_head (FieldCutShort p)
 judged_head p bs (Some f) =
-    cond (f.0 == 1) (cond (good_name (body f.1 bs)) (Name f.1) (bad-head (BadRecordName p)))
-    (cond (f.0 == 2) (bad-head (TagOutOfTurn p))
-    (cond (f.0 == 3) (cond (f.1 == 0) End (bad-head (EndWithLength p))) (bad-head (UnknownTag p))))
+    cond (f.0 == 1) (cond (good_name (body f.1 bs)) (Name f.1) (bad_head (BadRecordName p)))
+    (cond (f.0 == 2) (bad_head (TagOutOfTurn p))
+    (cond (f.0 == 3) (cond (f.1 == 0) End (bad_head (EndWithLength p))) (bad_head (UnknownTag p))))
 
 abbrev pub head_of : ℕ → List ℕ → Head
 head_of p bs = judged_head p bs (split bs)
 
 -- A field where a value is due.
 abbrev pub judged_value : ℕ → Option (ℕ × ℕ) → Value
-judged_value p None = bad-value (FieldCutShort p)
+judged_value p None = bad_value (FieldCutShort p)
 judged_value p (Some f) =
-    cond (f.0 == 2) (cond (nat_le f.1 160) (Bytes f.1) (bad-value (RecordValueTooLong p)))
-    (cond (f.0 == 1) (bad-value (TagOutOfTurn p)) (cond (f.0 == 3) (bad-value (TagOutOfTurn p)) (bad-value (UnknownTag p))))
+    cond (f.0 == 2) (cond (nat_le f.1 160) (Bytes f.1) (bad_value (RecordValueTooLong p)))
+    (cond (f.0 == 1) (bad_value (TagOutOfTurn p)) (cond (f.0 == 3) (bad_value (TagOutOfTurn p)) (bad_value (UnknownTag p))))
 
 abbrev pub value_of : ℕ → List ℕ → Value
 value_of p bs = judged_value p (split bs)
@@ -51,11 +51,11 @@ value_of p bs = judged_value p (split bs)
 abbrev pub HeadLies : Head → ℕ → Type 0
 HeadLies (Name k) n = 3 + k ≤ n
 HeadLies End n = 3 ≤ n
-HeadLies (bad-head f) n = Unit {0}
+HeadLies (bad_head f) n = Unit {0}
 
 abbrev pub ValueLies : Value → ℕ → Type 0
 ValueLies (Bytes k) n = 3 + k ≤ n
-ValueLies (bad-value f) n = Unit {0}
+ValueLies (bad_value f) n = Unit {0}
 
 -- What is read at a place: pairs with the place of the end's tag and the next place; none at the input's end; or a refusal's number and place.
 pub data Answer : Type 0 where
@@ -70,11 +70,11 @@ faulty f = refused (refusal_of f)
 abbrev pub on_head : Head → List Pair → ℕ → (ℕ → Answer) → Answer
 on_head (Name n) ps p more = more n
 on_head End ps p more = found ps p (p + 3)
-on_head (bad-head f) ps p more = faulty f
+on_head (bad_head f) ps p more = faulty f
 
 abbrev pub on_value : Value → (ℕ → Answer) → Answer
 on_value (Bytes n) more = more n
-on_value (bad-value f) more = faulty f
+on_value (bad_value f) more = faulty f
 
 -- Whether some pair has the name.
 abbrev pub named : List ℕ → List Pair → Bool

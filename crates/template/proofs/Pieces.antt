@@ -63,13 +63,13 @@ pub data Wrong (bs : List ℕ) : Type 0 where
 -- the report for them at a place
 abbrev pub blamed : {bs : List ℕ} → Wrong bs → ℕ → Report
 blamed (last e) p = report 2 p
-blamed (stray b rest e no-escape no_brace) p = report 2 p
+blamed (stray b rest e no_escape no_brace) p = report 2 p
 blamed (unclosed n ok e) p = report 3 (p + 2 + length n)
 blamed (broken n b rest ok e stops no_brace) p = report 3 (p + 2 + length n)
 
 pub read_wrong : (bs : List ℕ) (f : Wrong bs) (p : ℕ) → lex between_pieces p bs ≡ fault (blamed f p)
 read_wrong bs (last e) p = ap (lex between_pieces p) e
-read_wrong bs (stray b rest e no-escape no_name) p = ap (lex between_pieces p) e ∙ step_move (after_sign p) (p + 1) b rest _ (no_sign p (p + 1) b (no-escape at) (no-escape line) (no-escape return) (no-escape tab) no_name)
+read_wrong bs (stray b rest e no_escape no_name) p = ap (lex between_pieces p) e ∙ step_move (after_sign p) (p + 1) b rest _ (no_sign p (p + 1) b (no_escape at) (no_escape line) (no_escape return) (no_escape tab) no_name)
 read_wrong bs (unclosed n ok e) p =
     ap (lex between_pieces p) (e ∙ ap (λ l. 64 ∷ 123 ∷ l) (sym (append-nil n))) ∙ read_name n [] p (p + 1 + 1) [] ok ∙ ap (λ k. fault (report 3 k)) (omega arith)
 read_wrong bs (broken n b rest ok e stops no_end) p =
@@ -145,9 +145,9 @@ split_in (b ∷ bs) between_pieces ok =
 split_in (b ∷ bs) (after_sign q) ok =
     elim (sign_of b) [
       | inl s ↦ subst (λ x. Split (64 ∷ x ∷ bs)) (sym s.1) (one_more (escape s.0) tt (split_in bs between_pieces tt))
-      | inr no-escape ↦ elim (cases_eq b 123) [
+      | inr no_escape ↦ elim (cases_eq b 123) [
         | inl h ↦ subst (λ x. Split (64 ∷ x ∷ bs)) (sym h) (split_in bs (in_name q []) refl)
-        | inr no_name ↦ no_more (64 ∷ b ∷ bs) (stray b bs refl no-escape no_name)
+        | inr no_name ↦ no_more (64 ∷ b ∷ bs) (stray b bs refl no_escape no_name)
       ]
     ]
 split_in (b ∷ bs) (in_name q n) ok =

@@ -83,9 +83,9 @@ module _ (m : Meaning) (t : List ℕ) where
 
   judged : (r : Report) → Faulty m t r → judge m (lexed_from t 0) 0 0 [] ≡ refused r
   judged r (last_sign p w e) = judged_wrong p w (last e)
-  judged r (stray_sign p b rest w e no-escape no_name) = judged_wrong p w (stray b rest e no-escape no_name)
+  judged r (stray_sign p b rest w e no_escape no_name) = judged_wrong p w (stray b rest e no_escape no_name)
   judged r (open_name p n w ok e) = judged_wrong p w (unclosed n ok e) ∙ ap (λ k. refused (report 3 k)) (omega (arith, w.within, length-drop p t, ap length e))
-  judged r (broken_name p n b rest w ok e stops no-close) = judged_wrong p w (broken n b rest ok e stops no-close)
+  judged r (broken_name p n b rest w ok e stops no_close) = judged_wrong p w (broken n b rest ok e stops no_close)
   judged r (many_holes p n w st e) = judged_at p w _ _ (standing p (named n) st) (λ after. hole_many m p n _ _ _ after (omega (arith, e)))
   judged r (no_literal p pc b w st e none) = judged_at p w _ _ (standing p pc st ∙ literally pc b p _ e) (λ after. undecided _ _ none)
   judged r (no_hole p n w st few none) =
@@ -128,9 +128,9 @@ module _ (m : Meaning) (sound : Sound m) (t : List ℕ) where
 
     on_wrong : Wrong (drop p t) → Stops
     on_wrong (last e) = (report 2 p, last_sign p w e)
-    on_wrong (stray b rest e no-escape no_name) = (report 2 p, stray_sign p b rest w e no-escape no_name)
+    on_wrong (stray b rest e no_escape no_name) = (report 2 p, stray_sign p b rest w e no_escape no_name)
     on_wrong (unclosed n ok e) = (report 3 (length t), open_name p n w ok e)
-    on_wrong (broken n b rest ok e stops no-close) = (report 3 (p + 2 + length n), broken_name p n b rest w ok e stops no-close)
+    on_wrong (broken n b rest ok e stops no_close) = (report 3 (p + 2 + length n), broken_name p n b rest w ok e stops no_close)
 
   on_end : Before m t (length t) → Stops ⊎ Taken (judge m (lexed_from t 0) 0 0 [])
   on_end w =

@@ -40,7 +40,7 @@ module _ (k : ℕ) (ss ts : Slate) (a : Agree k ss ts) where
     at = λ i d ne.
         elim (cases_eq i h) [
           | inl e ↦ subst (λ (n : ℕ). get_or (set ss h x) n d ≡ get_or (set ts h x) n d) (sym e) (get_or-set_same ss h x d lt ∙ sym (get_or-set_same ts h x d (omega (arith, a.as_long))))
-          | inr no-h ↦ get_or-set_other ss h i x d no-h ∙ a.at i d ne ∙ sym (get_or-set_other ts h i x d no-h)
+          | inr no_h ↦ get_or-set_other ss h i x d no_h ∙ a.at i d ne ∙ sym (get_or-set_other ts h i x d no_h)
         ];
   }
 

@@ -77,13 +77,13 @@ module _ (m : Meaning) (sound : Sound m) (t : List ℕ) (s : Survey) (judged : v
       → print_of w.print ≡ print_after (judged_finish st₁.holes st₁.owed) (walked m₂ (value_at st₁.rows) t₂ (length old))
       → new ≡ output_after (judged_finish st₁.holes st₁.owed) old (walked m₂ (value_at st₁.rows) t₂ (length old))
       → AddsKept m t ls before all st₁.rows w old new
-  worked w old new m₂ same₂ t₂ is₂ finished printed-so wrote =
+  worked w old new m₂ same₂ t₂ is₂ finished printed_so wrote =
       let x = print_is (length old) m₂ same₂ t₂ is₂ in
       record {
         answered = gone.new;
         added = gone.added;
         kept =
-            moved m t (map order_of ls) old (sym answers_are) (sym rows_are) (sym (finished ∙ finish_is)) (sym (printed-so ∙ ap₂ print_after finish_is x)) (sym (wrote ∙ ap₂ (λ f y. output_after f old y) finish_is x))
+            moved m t (map order_of ls) old (sym answers_are) (sym rows_are) (sym (finished ∙ finish_is)) (sym (printed_so ∙ ap₂ print_after finish_is x)) (sym (wrote ∙ ap₂ (λ f y. output_after f old y) finish_is x))
             ((promise_kept m sound t s.holes (bodies_of s) judged).2 (map order_of ls) old);
       }
 

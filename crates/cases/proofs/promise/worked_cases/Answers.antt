@@ -13,13 +13,13 @@ returns c = record {
   empty_in_shell = record { checked = refl; planned = refl; prints = λ v. empty_text_fits; reads = refl };
   empty_in_sql = record { checked = refl; planned = refl; prints = λ v. empty_text_fits; reads = refl };
   empty_in_csv = record { checked = refl; planned = refl; prints = λ v. empty_text_fits; reads = refl };
-  shell-empty-value = record { prints = refl; reads = refl };
-  shell-dollar-in-quotes = record { prints = refl; reads = refl };
+  shell_empty_value = record { prints = refl; reads = refl };
+  shell_dollar_in_quotes = record { prints = refl; reads = refl };
   sql_hole_after_hole = refl;
-  sql-quote-between-holes = record { prints = refl; reads = refl };
+  sql_quote_between_holes = record { prints = refl; reads = refl };
   csv_comma_in_bare_field = refl;
   csv_comma_in_quotes = refl;
-  csv-comma-printed = record { prints = refl; reads = refl };
+  csv_comma_printed = record { prints = refl; reads = refl };
   csv_byte_after_hole = refl;
   sql_name_missing = refl;
 }
