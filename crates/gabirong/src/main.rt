@@ -13,7 +13,6 @@ mod refusal;
 mod shown;
 mod working;
 
-use anyhow::anyhow;
 use check::check_template;
 use command::{Action, Job, job_asked};
 use csv_host::Csv;
@@ -27,6 +26,7 @@ use records::tell_records;
 use shell::Shell;
 use sql::Sql;
 use std::env;
+use std::process::ExitCode;
 use working::work_through;
 
 const USAGE: &str = "usage: gabirong check HOST TEMPLATE-FILE
@@ -97,13 +97,14 @@ fn usage(rt: &HostRuntime) -> anyhow::Result<Outcome> {
     Ok(Outcome::Refused)
 }
 
-fn main(rt: HostRuntime) -> anyhow::Result<()> {
+// Refused or failed, the status is 1, and nothing is printed but the reason.
+fn main(rt: HostRuntime) -> ExitCode {
     match run(&rt) {
-        Ok(Outcome::Done) => Ok(()),
-        Ok(Outcome::Refused) => Err(anyhow!("refused")),
+        Ok(Outcome::Done) => ExitCode::SUCCESS,
+        Ok(Outcome::Refused) => ExitCode::FAILURE,
         Err(error) => {
-            eprintln!(rt; "gabirong: {error}")?;
-            Err(error)
+            let _ = eprintln!(rt; "gabirong: {error}");
+            ExitCode::FAILURE
         }
     }
 }
