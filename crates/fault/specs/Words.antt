@@ -50,6 +50,7 @@ hole_line k f = decimal (refusal_of f).number ++ (codes " hole " ++ (decimal k +
 abbrev pub carried_words : Report → List ℕ
 carried_words r = codes " (carries " ++ (decimal r.number ++ (codes " place " ++ (decimal r.place ++ codes ")")))
 
+-- The line by the hole that is named and by what is carried. No refusal has both.
 abbrev pub line_by : Option ℕ → Option Report → Fault → List ℕ
 line_by None None f = fault_line f
 line_by None (Some r) f = fault_line f ++ carried_words r

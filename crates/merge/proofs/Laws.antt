@@ -1,5 +1,5 @@
 -- A merged text reads as its record: what the binds of a record's values leave on the sheet.
-use Rattle.std.proofs.Common.{◌≡◌, ℕ, zero, suc, ◌+◌, ◌<◌, ◌≤◌, List, [], ◌∷◌, length, take, drop, set, Some, None, Ok, Err, All, Option, Result, sym, refl, ap, ◌∙◌, subst, arith, length-set, get_or-set_other}
+use Rattle.std.proofs.Common.{◌≡◌, ℕ, zero, suc, ◌+◌, ◌<◌, ◌≤◌, ◌≢◌, List, [], ◌∷◌, length, take, drop, set, Some, None, Ok, Err, All, Option, Result, sym, refl, ap, ◌∙◌, subst, arith, length-set, get_or-set_other}
 use Rattle.std.proofs.lemmas.List.Elements.{All-nil, All-cons}
 use mathlib.Core.Path.{fun_ext}
 use lib.Seq.{take-append_seam}
@@ -61,15 +61,15 @@ bound_by m d e st k (Some v) st' f = go d (judged_by m d st k v) refl f
     go d None q f = record { value = v; there = refl; within = in_range d q; after_it = sym (same_ok f) }
     go d (Some r) q f = absurd (refuses f)
 
+-- the pairs have a value of a name
+abbrev Named : List Pair → List ℕ → Type 0
+Named ps n = value_of n ps ≢ None
+
 -- What the binds of the holes from k on leave, where the rows from k on were empty: each hole's row has the record's value of its name.
 record Left (ps : List Pair) (st : State) (k : ℕ) (ns : List (List ℕ)) (st' : State) : Type 0 where
   before : (i : ℕ) → i < k → value_at st'.rows i ≡ value_at st.rows i
   from : (j : ℕ) → value_at st'.rows (k + j) ≡ named_value ps ns j
-  each : All (λ n. value_of n ps ≡ None → ⊥) ns
-
--- the pairs have a value of a name
-abbrev Named : List Pair → List ℕ → Type 0
-Named ps n = value_of n ps ≡ None → ⊥
+  each : All (Named ps) ns
 
 no_value : {x : List ℕ} {o : Option (List ℕ)} → o ≡ Some x → o ≡ None → ⊥
 no_value e f = nothing (sym f ∙ e)

@@ -3,6 +3,7 @@ use Rattle.std.proofs.Common.{◌≡◌, ℕ, ◌+◌, ◌≤◌, List, [], ◌�
 use mathlib.Core.List.{map-append}
 use Rattle.std.specs.List.{flat_map, AllByRecursion}
 use Rattle.std.proofs.lemmas.List.{take-append-drop, length-take-le, take_at, flat_map_more}
+use Rattle.std.proofs.lemmas.List.Elements.{All-push, All-from_recursion, recursion_from_All}
 use Rattle.host.specs.Meaning.{Meaning, chain}
 use Rattle.host.proofs.Chains.{came}
 use Rattle.host.specs.Run.{Item, literal, hole as gap, start, run}
@@ -68,11 +69,6 @@ module _ (m : Meaning) where
             ∙ (λ i. judge m (lex between_pieces (there i) rest) (count i) d more.0),
       )
 
--- a piece more that is well written
-well_more : (ps : List Piece) (pc : Piece) → AllByRecursion proper ps → proper pc → AllByRecursion proper (ps ++ (pc ∷ []))
-well_more [] pc ok one = (one, tt)
-well_more (q ∷ ps) pc ok one = (ok.0, well_more ps pc ok.1 one)
-
 over_some : {A B : Type 0} (f : A → B) (o : Option A) (y : B) → over f o ≡ Some y → (x : A) × (o ≡ Some x)
 over_some f None y e = absurd (nothing e)
 over_some f (Some x) y e = (x, refl)
@@ -104,7 +100,7 @@ module _ (m : Meaning) (t : List ℕ) (p : ℕ) where
         within = omega (arith, ap length cut, length-append front st.rest, long);
         pieces = ps;
         notation = record {
-          well = well_more w.pieces pc w.notation.well st.well;
+          well = recursion_from_All proper ps (All-push proper w.pieces pc (All-from_recursion proper w.pieces w.notation.well) st.well);
           spelled = sym (flat_map_more written [] w.pieces pc) ∙ ap (λ l. l ++ written pc) w.notation.spelled ∙ sym (take_at front st.rest _ long) ∙ ap (take (p + length (written pc))) cut;
         };
         few = omega (arith, holes_append w.pieces (pc ∷ []));
