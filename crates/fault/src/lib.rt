@@ -2,8 +2,10 @@
 #![tactic(auto)]
 
 mod display;
+pub mod failure;
 pub mod fault;
 pub mod flaw;
 
+pub use failure::Failure;
 pub use fault::Fault;
 pub use flaw::Flaw;

@@ -1,0 +1,34 @@
+// A short row of bytes, kept in place.
+ghost use Rattle.std.specs.Prelude.{◌≡◌, ◌≤◌, take};
+
+// At most N bytes.
+#[derive(Clone, Copy)]
+pub struct Bytes<const N: usize> {
+    items: [u8; N],
+    len: usize,
+    ghost fits: { len ≤ N },
+}
+
+impl<const N: usize> Bytes<N> {
+    // The first N bytes of a row, or all of them.
+    pub fn first(row: &[u8]) -> Self
+        ensures { take result.len result.items ≡ take N row.now }
+    {
+        let mut items = [0; N];
+        let len = row.len().min(N);
+        items[..len].copy_from_slice(&row[..len]);
+        Bytes { items, len }
+    }
+
+    pub fn as_slice(&self) -> &[u8]
+        ensures { result.now ≡ take self.now.len self.now.items }
+    {
+        &self.items[..self.len]
+    }
+
+    pub fn len(&self) -> usize
+        ensures { result ≡ self.now.len }
+    {
+        self.len
+    }
+}
