@@ -1,5 +1,5 @@
 // A short row of bytes, kept in place.
-ghost use Rattle.std.specs.Prelude.{◌≡◌, ◌≤◌, take};
+ghost use Rattle.std.specs.Prelude.{◌≡◌, ◌+◌, ◌<◌, ◌≤◌, ◌↔◌, [], ◌∷◌, ◌++◌, take, replicate, IsTrue};
 
 // At most N bytes.
 #[derive(Clone, Copy)]
@@ -18,6 +18,32 @@ impl<const N: usize> Bytes<N> {
         let len = row.len().min(N);
         items[..len].copy_from_slice(&row[..len]);
         Bytes { items, len }
+    }
+
+    pub fn empty() -> Self
+        ensures len { result.len ≡ 0 }
+        ensures items { result.items ≡ replicate N 0 }
+    {
+        Bytes {
+            items: [0; N],
+            len: 0,
+        }
+    }
+
+    pub fn is_full(&self) -> bool
+        ensures { IsTrue result ↔ (self.now.len ≡ N) }
+    {
+        self.len == N
+    }
+
+    // Adds a byte at the end, for which there is room.
+    pub fn push(&mut self, byte: u8)
+        requires { self.old.len < N }
+        ensures len { self.new.len ≡ self.old.len + 1 }
+        ensures items { take self.new.len self.new.items ≡ take self.old.len self.old.items ++ byte ∷ [] }
+    {
+        self.items[self.len] = byte;
+        self.len += 1;
     }
 
     pub fn as_slice(&self) -> &[u8]

@@ -1,12 +1,14 @@
-use Rattle.std.proofs.Common.{◌≡◌, ◌-◌, ◌≤◌, [], length, take}
+use Rattle.std.proofs.Common.{◌≡◌, ◌≤◌, [], length}
+use Rattle.host.specs.Answers.{bytes_of}
 use Rattle.template.specs.Lexing.{lexed_from}
 use Rattle.template.specs.Judging.{judge}
 use Rattle.template.proofs.check.survey.Given as goal
 
-abbrev pub invariant-loop-item : goal.invariant-loop-item
-invariant-loop-item g l =
+abbrev pub invariant-loop-read : goal.invariant-loop-read
+invariant-loop-read g l =
     let m = g.H.Host.meaning l.host in
-    (l.at ≤ length l.template) × (l.holes ≤ 64) × (length l.bodies ≡ 64) × (judge m (lexed_from l.template 0) 0 0 [] ≡ judge m (lexed_from l.template l.at) l.holes l.context (take l.holes l.bodies))
-
-abbrev pub decreases-loop-item : goal.decreases-loop-item
-decreases-loop-item g l = length l.template - l.at
+    (goal.iterator-loop-read g).can_next l.read-iterator
+    × (goal.iterator-loop-read g).is_finite l.read-iterator
+    × (l.read-iterator.template.now ≡ l.template)
+    × (l.read-iterator.at ≤ length l.template)
+    × (judge m (lexed_from l.template 0) 0 0 [] ≡ judge m (lexed_from l.template l.read-iterator.at) l.survey.bodies.len l.context (bytes_of l.survey.bodies))
