@@ -4,7 +4,7 @@ use Rattle.std.proofs.lemmas.List.{at_drop_more, at_drop_all, length-take-le, ta
 use Rattle.host.specs.Meaning.{Meaning, Brackets, chain}
 use Rattle.host.specs.Run.{spelled}
 use Rattle.printer.specs.Passes.{laid, Lies, end_after, laid_if, framed}
-use Rattle.host.specs.Answers.{spelling_of}
+use Rattle.host.specs.Answers.{bytes_of, spelling_of}
 use Rattle.host.specs.declared.effect.Spelling.{Spelling}
 use Rattle.printer.proofs.Printed.{spelling_some, spelling_none}
 use Rattle.template.proofs.Reading.{the_same, nothing}
@@ -75,12 +75,12 @@ follows m c value part at i room lt lies left =
 
 module _ (m : Meaning) (c : ℕ) (value old new : List ℕ) (at i end : ℕ) (so : Sofar m c value old new at i end) (lies : Lies at (length old) (spelled m c value)) where
   -- the host spells out the next byte
-  pub spelt : (s : Spelling) (n : ℕ) → n ≡ s.len → i < length value → spelling_of s ≡ m.spelling c (get_or value i 0) → m.spelling c (get_or value i 0) ≡ Some (take n s.bytes)
-  spelt s n is lt e =
+  pub spelt : (s : Spelling) → i < length value → spelling_of s ≡ m.spelling c (get_or value i 0) → m.spelling c (get_or value i 0) ≡ Some (bytes_of s.bytes)
+  spelt s lt e =
       let f = follows m c value so.part at i (length old) lt lies so.left in
-      go s.spells refl (e ∙ f.spelling) ∙ ap (λ k. Some (take k s.bytes)) (sym is)
+      go s.spells refl (e ∙ f.spelling)
     where
-      go : (b : Bool) → s.spells ≡ b → {w : List ℕ} → spelling_of s ≡ Some w → m.spelling c (get_or value i 0) ≡ Some (take s.len s.bytes)
+      go : (b : Bool) → s.spells ≡ b → {w : List ℕ} → spelling_of s ≡ Some w → m.spelling c (get_or value i 0) ≡ Some (bytes_of s.bytes)
       go true h f = sym e ∙ spelling_some s h
       go false h f = absurd (nothing (sym (spelling_none s h) ∙ f))
 

@@ -7,7 +7,7 @@ use Rattle.host.specs.Meaning.{Meaning, Brackets, chain}
 use Rattle.host.specs.declared.effect.Effect.{Effect}
 use Rattle.host.specs.declared.effect.Recipe.{Recipe}
 use Rattle.host.specs.declared.effect.Spelling.{Spelling}
-use Rattle.host.specs.Answers.{spelling_of, recipe_of, brackets_of}
+use Rattle.host.specs.Answers.{bytes_of, spelling_of, recipe_of, brackets_of}
 use Rattle.fault.specs.Refusal.{Refusal}
 use Rattle.template.specs.Judging.{decide, reach, crossing}
 use Rattle.template.specs.Lexing.{Lexed, byte, hole}
@@ -22,11 +22,11 @@ laid_part old new bytes at e =
     ap (λ k. take at old ++ (new ++ drop k (drop at old))) n ∙ ap (λ l. take at old ++ (new ++ l)) (drop-drop (length bytes) at old) ∙ ap (λ l. take at old ++ (l ++ drop (at + length bytes) old)) e
 
 -- what a spelling says
-pub spelling_some : (s : Spelling) → s.spells ≡ true → spelling_of s ≡ Some (take s.len s.bytes)
-spelling_some s e = cond-true s.spells (Some (take s.len s.bytes)) None e
+pub spelling_some : (s : Spelling) → s.spells ≡ true → spelling_of s ≡ Some (bytes_of s.bytes)
+spelling_some s e = cond-true s.spells (Some (bytes_of s.bytes)) None e
 
 pub spelling_none : (s : Spelling) → s.spells ≡ false → spelling_of s ≡ None
-spelling_none s e = cond-false s.spells (Some (take s.len s.bytes)) None e
+spelling_none s e = cond-false s.spells (Some (bytes_of s.bytes)) None e
 
 -- the length so far, and of what is left
 abbrev pub plus : ℕ → Result (List ℕ) Refusal → Result ℕ Refusal
@@ -78,18 +78,18 @@ module _ (m : Meaning) (v : ℕ → List ℕ) (rest : Lexed) (p k c len : ℕ) w
         let body : Brackets → ℕ × ℕ → Result (List ℕ) Refusal = λ b y. and_then (spelt_out m b.body k 0 (v k)) (λ w. after (λ t. b.opener ++ (w ++ (b.closer ++ t))) (prints m v rest (k + 1) y.1)) in
         ap (λ o. decide o (Err (flawed 7 p)) (λ b. decide (crossing m c) (Err (flawed 7 p)) (body b))) (takes r x e f) ∙ ap (λ o. decide o (Err (flawed 7 p)) (body (brackets_of r))) f
 
-    pub weigh_hole : (size : ℕ) → r.opener_len ≤ length r.opener → r.closer_len ≤ length r.closer → Ok size ≡ weight (spelt_out m r.body k 0 (v k)) → plus len (prints m v (hole p n rest) k c) ≡ plus (len + (r.opener_len + size + r.closer_len)) (prints m v rest (k + 1) x.1)
+    pub weigh_hole : (size : ℕ) → r.opener.len ≤ length r.opener.items → r.closer.len ≤ length r.closer.items → Ok size ≡ weight (spelt_out m r.body k 0 (v k)) → plus len (prints m v (hole p n rest) k c) ≡ plus (len + (r.opener.len + size + r.closer.len)) (prints m v rest (k + 1) x.1)
     weigh_hole size o cl h =
         ap (plus len) prints_hole ∙ go (spelt_out m r.body k 0 (v k)) (prints m v rest (k + 1) x.1) h
       where
-        go : (y z : Result (List ℕ) Refusal) → Ok size ≡ weight y → plus len (and_then y (λ w. after (λ t. (brackets_of r).opener ++ (w ++ ((brackets_of r).closer ++ t))) z)) ≡ plus (len + (r.opener_len + size + r.closer_len)) z
+        go : (y z : Result (List ℕ) Refusal) → Ok size ≡ weight y → plus len (and_then y (λ w. after (λ t. (brackets_of r).opener ++ (w ++ ((brackets_of r).closer ++ t))) z)) ≡ plus (len + (r.opener.len + size + r.closer.len)) z
         go (Ok w) (Ok t) g =
             let same : size ≡ length w = cc in
             let a = length-append (brackets_of r).opener (w ++ ((brackets_of r).closer ++ t)) in
             let b = length-append w ((brackets_of r).closer ++ t) in
             let d = length-append (brackets_of r).closer t in
-            let ol = length-take-le r.opener_len r.opener o in
-            let cll = length-take-le r.closer_len r.closer cl in
+            let ol = length-take-le r.opener.len r.opener.items o in
+            let cll = length-take-le r.closer.len r.closer.items cl in
             ap Ok (omega arith)
         go (Ok w) (Err q) g = refl
         go (Err q) z g = let bad : ◌≡◌ {A = ℕ} 0 1 = cc in absurd (omega arith)

@@ -1,7 +1,7 @@
 -- The bytes of a value that a body spells.
 use Rattle.std.proofs.Common.{◌≡◌, ℕ, Bool, true, false, cond, take, is_some, Some, None, sym, refl, ap, ◌∙◌}
 use Rattle.host.specs.Meaning.{Meaning}
-use Rattle.host.specs.Answers.{spelling_of}
+use Rattle.host.specs.Answers.{bytes_of, spelling_of}
 use Rattle.host.specs.declared.effect.Spelling.{Spelling}
 use Rattle.printer.specs.Slate.{spells}
 
@@ -11,4 +11,4 @@ some_cond false x = refl
 
 -- what the host's answer says of a byte
 pub spells_is : (m : Meaning) (body b : ℕ) (s : Spelling) → spelling_of s ≡ m.spelling body b → spells m body b ≡ s.spells
-spells_is m body b s e = ap is_some (sym e) ∙ some_cond s.spells (take s.len s.bytes)
+spells_is m body b s e = ap is_some (sym e) ∙ some_cond s.spells (bytes_of s.bytes)

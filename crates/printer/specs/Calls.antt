@@ -1,7 +1,8 @@
 -- What the calls' answers and arguments say.
-use Rattle.std.specs.Prelude.{ℕ, List, take, Some, None, Ok, Err, Option, Result}
+use Rattle.std.specs.Prelude.{ℕ, List, Some, None, Ok, Err, Option, Result}
 use Rattle.fault.specs.declared.fault.Fault.{Fault}
 use Rattle.fault.specs.Refusal.{Refusal, refusal_of, unfit}
+use Rattle.host.specs.Answers.{bytes_of}
 use Rattle.template.specs.declared.survey.Survey.{Survey}
 use Rattle.template.specs.Judging.{Verdict, refused, accepted}
 use Rattle.printer.specs.declared.filling.Filling.{Filling}
@@ -19,11 +20,11 @@ refusal_in (Err f) = Some (refusal_of f)
 
 -- The bodies of a template's holes, by its survey.
 abbrev pub bodies_of : Survey → List ℕ
-bodies_of s = take s.holes s.bodies
+bodies_of s = bytes_of s.bodies
 
 -- What a survey under a sheet's host says: the holes and their bodies, or 9.
 abbrev pub surveyed_of : Result Survey Fault → Result (ℕ × List ℕ) Refusal
-surveyed_of (Ok s) = Ok (s.holes, bodies_of s)
+surveyed_of (Ok s) = Ok (s.bodies.len, bodies_of s)
 surveyed_of (Err f) = Err (refusal_of f)
 
 abbrev pub fitting_host : Verdict → Result (ℕ × List ℕ) Refusal

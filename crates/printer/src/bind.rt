@@ -19,22 +19,17 @@ use template::survey::Survey;
 pub(crate) fn surveyed<H: Host>(template: &[u8], host: &H) -> Result<Survey, Fault>
     ensures { surveyed_of result ≡ fitting_host (verdict (H.meaning host.now) template.now) }
 {
-    match survey(template, host) {
-        Ok(survey) => Ok(survey),
-        Err(flaw) => Err(Fault::Unfit(flaw)),
-    }
+    survey(template, host).map_err(|flaw| Fault::Unfit(flaw))
 }
 
 // How many bytes of the value come before the first that the body turns away.
 fn spelled<H: Host>(host: &H, body: u8, value: &[u8]) -> usize
     ensures { result ≡ prefix_len (spells (H.meaning host.now) body) value.now }
 {
-    for (i, byte) in value.iter().enumerate() {
-        if !host.spelling(body, *byte).spells {
-            return i;
-        }
-    }
-    value.len()
+    value
+        .iter()
+        .take_while(|byte| host.spelling(body, **byte).spells)
+        .count()
 }
 
 impl Filling<'_> {

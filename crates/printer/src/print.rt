@@ -18,11 +18,10 @@ use crate::table::Table;
 use fault::flaw::MAX_TEMPLATE;
 use fault::{Fault, Flaw};
 use host::Host;
-use host::answer::or_error;
 use host::effect::Recipe;
 use template::check::cross;
-use template::item::Item;
-use template::lexer::item_at;
+use template::item::{Hole, Item};
+use template::items::{Items, Placed};
 
 // The length of a value of a hole as its body spells it.
 fn spelled_len<H: Host>(host: &H, body: u8, value: &[u8], hole: usize) -> Result<usize, Fault>
@@ -36,7 +35,7 @@ fn spelled_len<H: Host>(host: &H, body: u8, value: &[u8], hole: usize) -> Result
         if !spelling.spells {
             return Err(Fault::StoredByteTurnedAway { hole, place });
         }
-        len += spelling.len;
+        len += spelling.bytes.len();
     }
     Ok(len)
 }
@@ -46,33 +45,28 @@ fn text_len<H: Host>(template: &[u8], host: &H, values: &Table) -> Result<usize,
     requires { length template.now ≤ 3584 }
     ensures { told result ≡ weight (prints (H.meaning host.now) (value_at values.now.rows) (lexed_from template.now 0) 0 0) }
 {
-    let mut at = 0;
     let mut context = 0;
     let mut holes = 0;
     let mut len = 0;
-    while let Some((item, next)) = item_at(template, at)? {
+    for read in Items::of(template) {
+        let Placed { place, item } = read?;
         match item {
             Item::Literal(byte) => {
-                let (reached, _) = or_error(
-                    host.step(context, byte),
-                    Flaw::LiteralRefused { place: at },
-                )?;
-                context = reached;
+                let (next, _) = host
+                    .step(context, byte)
+                    .map_err(|_| Flaw::LiteralRefused { place })?;
                 len += 1;
+                context = next;
             }
-            Item::Hole(hole) => {
+            Item::Hole(Hole { place, .. }) => {
                 let recipe = host.recipe(context);
-                let (_, after) = or_error(
-                    cross(host, context),
-                    Flaw::HoleRefused { place: hole.place },
-                )?;
+                let (_, next) = cross(host, context).map_err(|_| Flaw::HoleRefused { place })?;
                 let spelled = spelled_len(host, recipe.body, values.value(holes), holes)?;
-                len += recipe.opener_len + spelled + recipe.closer_len;
-                context = after;
+                len += recipe.opener.len() + spelled + recipe.closer.len();
                 holes += 1;
+                context = next;
             }
         }
-        at = next;
     }
     Ok(len)
 }
@@ -97,7 +91,7 @@ fn put_value<H: Host>(host: &H, body: u8, value: &[u8], out: &mut [u8], at: usiz
     let mut end = at;
     for byte in value {
         let spelling = host.spelling(body, *byte);
-        end = put(out, end, &spelling.bytes[0..spelling.len]);
+        end = put(out, end, spelling.bytes.as_slice());
     }
     end
 }
@@ -108,9 +102,9 @@ fn put_hole<H: Host>(host: &H, recipe: Recipe, value: &[u8], out: &mut [u8], at:
     ensures end { result ≡ end_after at (framed (brackets_of recipe) (spelled (H.meaning host.now) recipe.body value.now)) }
     ensures laid { out.new ≡ laid_if out.old at (framed (brackets_of recipe) (spelled (H.meaning host.now) recipe.body value.now)) }
 {
-    let opened = put(out, at, &recipe.opener[0..recipe.opener_len]);
+    let opened = put(out, at, recipe.opener.as_slice());
     let spelled = put_value(host, recipe.body, value, out, opened);
-    put(out, spelled, &recipe.closer[0..recipe.closer_len])
+    put(out, spelled, recipe.closer.as_slice())
 }
 
 // The text of a template that was measured, laid into the output from its start.
@@ -119,33 +113,28 @@ fn put_text<H: Host>(template: &[u8], host: &H, values: &Table, out: &mut [u8]) 
     ensures ok { is_ok result ≡ true }
     ensures text { out.new ≡ output out.old (prints (H.meaning host.now) (value_at values.now.rows) (lexed_from template.now 0) 0 0) }
 {
-    let mut at = 0;
     let mut context = 0;
     let mut holes = 0;
     let mut end = 0;
-    while let Some((item, next)) = item_at(template, at)? {
+    for read in Items::of(template) {
+        let Placed { place, item } = read?;
         match item {
             Item::Literal(byte) => {
-                let (reached, _) = or_error(
-                    host.step(context, byte),
-                    Flaw::LiteralRefused { place: at },
-                )?;
+                let (next, _) = host
+                    .step(context, byte)
+                    .map_err(|_| Flaw::LiteralRefused { place })?;
                 out[end] = byte;
                 end += 1;
-                context = reached;
+                context = next;
             }
-            Item::Hole(hole) => {
+            Item::Hole(Hole { place, .. }) => {
                 let recipe = host.recipe(context);
-                let (_, after) = or_error(
-                    cross(host, context),
-                    Flaw::HoleRefused { place: hole.place },
-                )?;
+                let (_, next) = cross(host, context).map_err(|_| Flaw::HoleRefused { place })?;
                 end = put_hole(host, recipe, values.value(holes), out, end);
                 holes += 1;
-                context = after;
+                context = next;
             }
         }
-        at = next;
     }
     Ok(())
 }

@@ -20,7 +20,7 @@ returns g c =
     let s = c.in_ok-survey.survey in
     let v = a.value.now in
     let same : g.H.Host.meaning c.host.result.now ≡ m = ap g.H.Host.meaning c.host.ensures in
-    let judged : verdict m t ≡ accepted s.holes (bodies_of s) = host_takes (verdict m t) s.holes (bodies_of s) (c.in_ok-survey.ensures ∙ ap (λ (k : Meaning). fitting_host (verdict k t)) same) in
+    let judged : verdict m t ≡ accepted s.bodies.len (bodies_of s) = host_takes (verdict m t) s.bodies.len (bodies_of s) (c.in_ok-survey.ensures ∙ ap (λ (k : Meaning). fitting_host (verdict k t)) same) in
     let done = c.bind_surveyed.ensures in
     record {
       told = done.told ∙ sym (ap (λ (d : Verdict). judged_by m d st a.hole v) judged);

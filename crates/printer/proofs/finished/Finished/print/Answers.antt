@@ -26,8 +26,8 @@ returns g c =
     let r = c.print_surveyed.result in
     let s = c.in_ok-surveyed.field-0 in
     let same : g.H.Host.meaning c.host.result.now ≡ m = ap g.H.Host.meaning c.host.ensures in
-    let judged : verdict m t ≡ accepted s.holes (bodies_of s) = host_takes (verdict m t) s.holes (bodies_of s) (c.in_ok-surveyed.ensures ∙ ap (λ (k : Meaning). fitting_host (verdict k t)) same) in
-    let is = walked_printed m v t s.holes (bodies_of s) judged (length old) in
+    let judged : verdict m t ≡ accepted s.bodies.len (bodies_of s) = host_takes (verdict m t) s.bodies.len (bodies_of s) (c.in_ok-surveyed.ensures ∙ ap (λ (k : Meaning). fitting_host (verdict k t)) same) in
+    let is = walked_printed m v t s.bodies.len (bodies_of s) judged (length old) in
     let answer : told r ≡ weight (printed m v t (length old)) = c.print_surveyed.ensures.answer ∙ ap weight is in
     let text : new ≡ output old (printed m v t (length old)) = c.print_surveyed.ensures.text ∙ ap (output old) is in
     record {
