@@ -5,8 +5,8 @@ use Rattle.std.proofs.lemmas.Bool.{cases_Bool, cases_lt}
 use Rattle.fault.specs.declared.fault.Fault.{Fault}
 use Rattle.fault.specs.declared.fault.Fault.TheVariants.{BadRecordName, RecordValueTooLong}
 use Rattle.fault.specs.Refusal.{Refusal, refusal_of, plain}
-use Rattle.record.specs.declared.writer.Unwritten.{Unwritten}
-use Rattle.record.specs.declared.writer.Unwritten.TheVariants.{Refused as UnwrittenRefused, NoMemory}
+use Rattle.fault.specs.declared.failure.Failure.{Failure}
+use Rattle.fault.specs.declared.failure.Failure.TheVariants.{Refused as FailureRefused, NoMemory}
 use Rattle.record.specs.Names.{good_name}
 use Rattle.record.specs.Format.{Pair, field, packed}
 use Rattle.record.specs.Reading.{Answer, refused, value_of, body, named, reads, read_at}
@@ -27,26 +27,26 @@ module _ (ps : List Pair) (p : ℕ) (q : Pair) (tail : List ℕ) (r : Refusal) (
   bytes = field 1 q.0 ++ (field 2 q.1 ++ tail)
 
   of_name : (room : ℕ) → good_name q.0 ≡ false → reads room ps p bytes ≡ refused r
-  of_name room bad = as_refused r (plain 23 p) (reads_bad ps p bytes room (BadRecordName p) (sym (head_bad_name p q.0 (field 2 q.1 ++ tail) bad))) (wrong_name ps p q bad) wrong
+  of_name room bad = as_refused r (plain 23 p) (reads_bad ps p bytes room (BadRecordName p) (head_bad_name p q.0 (field 2 q.1 ++ tail) bad)) (wrong_name ps p q bad) wrong
 
   module _ (good : good_name q.0 ≡ true) where
     of_many : 64 ≤ length ps → reads 0 ps p bytes ≡ refused r
-    of_many many = as_refused r (plain 25 p) (reads_full ps p bytes (length q.0) (sym (head_name p q.0 (field 2 q.1 ++ tail) good))) (wrong_many ps p q good many) wrong
+    of_many many = as_refused r (plain 25 p) (reads_full ps p bytes (length q.0) (head_name p q.0 (field 2 q.1 ++ tail) good)) (wrong_many ps p q good many) wrong
 
     module _ (room : ℕ) (few : length ps < 64) where
       same_named : named (body (length q.0) bytes) ps ≡ named q.0 ps
       same_named = ap (λ x. named x ps) (body_field 1 q.0 (field 2 q.1 ++ tail))
 
       of_twice : named q.0 ps ≡ true → reads (suc room) ps p bytes ≡ refused r
-      of_twice twice = as_refused r (plain 26 p) (reads_twice ps p bytes (length q.0) (sym (head_name p q.0 (field 2 q.1 ++ tail) good)) room (same_named ∙ twice)) (wrong_twice ps p q good few twice) wrong
+      of_twice twice = as_refused r (plain 26 p) (reads_twice ps p bytes (length q.0) (head_name p q.0 (field 2 q.1 ++ tail) good) room (same_named ∙ twice)) (wrong_twice ps p q good few twice) wrong
 
       module _ (new : named q.0 ps ≡ false) where
         of_value : 160 < length q.1 → reads (suc room) ps p bytes ≡ refused r
         of_value long =
             let due = p + (3 + length q.0) in
             as_refused r (plain 24 due)
-            (reads_bad_value ps p bytes (length q.0) (sym (head_name p q.0 (field 2 q.1 ++ tail) good)) room (RecordValueTooLong due) (same_named ∙ new)
-            (sym (ap (value_of due) (past_field 1 q.0 (field 2 q.1 ++ tail)) ∙ value_long due q.1 tail long)))
+            (reads_bad_value ps p bytes (length q.0) (head_name p q.0 (field 2 q.1 ++ tail) good) room (RecordValueTooLong due) (same_named ∙ new)
+            (ap (value_of due) (past_field 1 q.0 (field 2 q.1 ++ tail)) ∙ value_long due q.1 tail long))
             (wrong_value ps p q good few new long) wrong
 
         of_none : length q.1 ≤ 160 → reads (suc room) ps p bytes ≡ refused r
@@ -94,13 +94,13 @@ module _ (room : ℕ) (before : List ℕ) (ps : List Pair) (n : ℕ) where
   pub wrote : (after : List ℕ) → Ok n ≡ verdict (refused_pairs (length before) ps) (length (packed ps)) → after ≡ before ++ packed ps → Wrote room before after ps (Ok tt)
   wrote after judged is = let none = (verdict_ok _ _ n judged).0 in record { refuses = sym none; bytes = is; memory = tt; kept = kept before after ps is none }
 
-  pub no_memory : (r : Result (Unit {0}) Unwritten) (after : List ℕ) → r ≡ Err NoMemory → Ok n ≡ verdict (refused_pairs (length before) ps) (length (packed ps)) → after ≡ before → room < length before + n → Wrote room before after ps r
+  pub no_memory : (r : Result (Unit {0}) (Failure Fault)) (after : List ℕ) → r ≡ Err NoMemory → Ok n ≡ verdict (refused_pairs (length before) ps) (length (packed ps)) → after ≡ before → room < length before + n → Wrote room before after ps r
   no_memory r after is judged same short =
       let right = verdict_ok _ _ n judged in
-      let P : Result (Unit {0}) Unwritten → Type 0 = Wrote room before after ps in
+      let P : Result (Unit {0}) (Failure Fault) → Type 0 = Wrote room before after ps in
       subst P (sym is) (record { refuses = sym right.0; bytes = same; memory = omega (arith, right.1); kept = tt })
 
-pub not_taken : (room : ℕ) (before : List ℕ) (ps : List Pair) (r : Result (Unit {0}) Unwritten) (f : Fault) → r ≡ Err (UnwrittenRefused f) → Err (refusal_of f) ≡ verdict (refused_pairs (length before) ps) (length (packed ps)) → Wrote room before before ps r
+pub not_taken : (room : ℕ) (before : List ℕ) (ps : List Pair) (r : Result (Unit {0}) (Failure Fault)) (f : Fault) → r ≡ Err (FailureRefused f) → Err (refusal_of f) ≡ verdict (refused_pairs (length before) ps) (length (packed ps)) → Wrote room before before ps r
 not_taken room before ps r f is judged =
-    let P : Result (Unit {0}) Unwritten → Type 0 = Wrote room before before ps in
+    let P : Result (Unit {0}) (Failure Fault) → Type 0 = Wrote room before before ps in
     subst P (sym is) (record { refuses = sym (verdict_err _ _ (refusal_of f) judged); bytes = refl; memory = tt; kept = tt })

@@ -1,11 +1,12 @@
 -- Fields as they are written and as they are judged. Assumes nothing.
-use Rattle.std.proofs.Common.{◌≡◌, ℕ, ◌+◌, ◌*◌, ◌/◌, ◌%◌, ◌<◌, ◌≤◌, Bool, true, false, cond, ◌&&◌, eqb, ltb, leb, List, [], ◌∷◌, ◌++◌, length, take, drop, Some, None, Option, sym, refl, ap, ◌∙◌, arith}
+use Rattle.std.proofs.Common.{◌≡◌, ℕ, ◌+◌, ◌*◌, ◌/◌, ◌%◌, ◌<◌, ◌≤◌, Bool, true, false, cond, ◌&&◌, eqb, ltb, leb, List, [], ◌∷◌, ◌++◌, length, take, drop, Some, None, Ok, Err, Option, Result, sym, refl, ap, ◌∙◌, arith}
 use Rattle.std.proofs.lemmas.List.{take_at, drop_at, drop-drop, length-append, length-take-le, take-append-drop}
 use Rattle.std.proofs.lemmas.Bool.{le-leb, lt-leb, cond-true, cond-false, and_parts, ltb-true}
 use Rattle.std.proofs.lemmas.Bool.Decides.{nat_tests}
 use Rattle.fault.specs.declared.fault.Fault.TheVariants.{UnknownTag, TagOutOfTurn, BadRecordName, RecordValueTooLong, EndWithLength}
-use Rattle.record.specs.declared.field.Head.TheVariants.{Name, End, Refused as bad_head}
-use Rattle.record.specs.declared.field.Value.TheVariants.{Bytes, Refused as bad_value}
+use Rattle.fault.specs.declared.fault.Fault.{Fault}
+use Rattle.record.specs.declared.field.Head.{Head}
+use Rattle.record.specs.declared.field.Head.TheVariants.{Name, End}
 use Rattle.record.specs.Names.{lower, tail_bytes, good_name}
 use Rattle.record.specs.Format.{field}
 use Rattle.record.specs.Reading.{split, body, judged_head, judged_value, head_of, value_of}
@@ -24,20 +25,20 @@ module _ (t : ℕ) (xs rest : List ℕ) where
   pub past_field : drop (3 + length xs) (field t xs ++ rest) ≡ rest
   past_field = sym (drop-drop (length xs) 3 (field t xs ++ rest)) ∙ drop_at xs rest (length xs) refl
 
-pub head_name : (p : ℕ) (xs rest : List ℕ) → good_name xs ≡ true → head_of p (field 1 xs ++ rest) ≡ Name (length xs)
+pub head_name : (p : ℕ) (xs rest : List ℕ) → good_name xs ≡ true → head_of p (field 1 xs ++ rest) ≡ Ok (Name (length xs))
 head_name p xs rest good = ap (judged_head p (field 1 xs ++ rest)) (split_field_lem 1 xs rest) ∙ cond-true _ _ _ (ap good_name (body_field 1 xs rest) ∙ good)
 
-pub head_end : (p : ℕ) (rest : List ℕ) → head_of p (field 3 [] ++ rest) ≡ End
+pub head_end : (p : ℕ) (rest : List ℕ) → head_of p (field 3 [] ++ rest) ≡ Ok End
 head_end p rest = ap (judged_head p (field 3 [] ++ rest)) (split_field_lem 3 [] rest)
 
-pub value_bytes : (p : ℕ) (xs rest : List ℕ) → length xs ≤ 160 → value_of p (field 2 xs ++ rest) ≡ Bytes (length xs)
+pub value_bytes : (p : ℕ) (xs rest : List ℕ) → length xs ≤ 160 → value_of p (field 2 xs ++ rest) ≡ Ok (length xs)
 value_bytes p xs rest short = ap (judged_value p) (split_field_lem 2 xs rest) ∙ cond-true _ _ _ (le-leb (length xs) 160 short)
 
 -- what is refused of a written field
-pub head_bad_name : (p : ℕ) (xs rest : List ℕ) → good_name xs ≡ false → head_of p (field 1 xs ++ rest) ≡ bad_head (BadRecordName p)
+pub head_bad_name : (p : ℕ) (xs rest : List ℕ) → good_name xs ≡ false → head_of p (field 1 xs ++ rest) ≡ Err (BadRecordName p)
 head_bad_name p xs rest bad = ap (judged_head p (field 1 xs ++ rest)) (split_field_lem 1 xs rest) ∙ cond-false _ _ _ (ap good_name (body_field 1 xs rest) ∙ bad)
 
-pub value_long : (p : ℕ) (xs rest : List ℕ) → 160 < length xs → value_of p (field 2 xs ++ rest) ≡ bad_value (RecordValueTooLong p)
+pub value_long : (p : ℕ) (xs rest : List ℕ) → 160 < length xs → value_of p (field 2 xs ++ rest) ≡ Err (RecordValueTooLong p)
 value_long p xs rest long = ap (judged_value p) (split_field_lem 2 xs rest) ∙ cond-false _ _ _ (lt-leb (length xs) 160 long)
 
 no_none : {A : Type 0} {x : A} → None ≡ Some x → ⊥
@@ -71,39 +72,39 @@ was_field t n (x ∷ y ∷ z ∷ cs) h e =
     λ i. parts.1 i ∷ high i ∷ low i ∷ rest i
 
 -- what a head or a value that is taken was
-name_parts : (p n t k : ℕ) (g : Bool) → cond (eqb t 1) (cond g (Name k) (bad_head (BadRecordName p))) (cond (eqb t 2) (bad_head (TagOutOfTurn p)) (cond (eqb t 3) (cond (eqb k 0) End (bad_head (EndWithLength p))) (bad_head (UnknownTag p)))) ≡ Name n → (t ≡ 1) × (k ≡ n) × (g ≡ true)
+name_parts : (p n t k : ℕ) (g : Bool) → cond {A = Result Head Fault} (eqb t 1) (cond g (Ok (Name k)) (Err (BadRecordName p))) (cond (eqb t 2) (Err (TagOutOfTurn p)) (cond (eqb t 3) (cond (eqb k 0) (Ok End) (Err (EndWithLength p))) (Err (UnknownTag p)))) ≡ Ok (Name n) → (t ≡ 1) × (k ≡ n) × (g ≡ true)
 name_parts p n t k g e =
     let tag : t ≡ 1 = grind (arith, nat_tests) in
     let long : k ≡ n = grind (arith, nat_tests) in
     let good : g ≡ true = grind (arith, nat_tests) in
     (tag, long, good)
 
-end_parts : (p t k : ℕ) (g : Bool) → cond (eqb t 1) (cond g (Name k) (bad_head (BadRecordName p))) (cond (eqb t 2) (bad_head (TagOutOfTurn p)) (cond (eqb t 3) (cond (eqb k 0) End (bad_head (EndWithLength p))) (bad_head (UnknownTag p)))) ≡ End → (t ≡ 3) × (k ≡ 0)
+end_parts : (p t k : ℕ) (g : Bool) → cond {A = Result Head Fault} (eqb t 1) (cond g (Ok (Name k)) (Err (BadRecordName p))) (cond (eqb t 2) (Err (TagOutOfTurn p)) (cond (eqb t 3) (cond (eqb k 0) (Ok End) (Err (EndWithLength p))) (Err (UnknownTag p)))) ≡ Ok End → (t ≡ 3) × (k ≡ 0)
 end_parts p t k g e =
     let tag : t ≡ 3 = grind (arith, nat_tests) in
     let none : k ≡ 0 = grind (arith, nat_tests) in
     (tag, none)
 
-value_parts : (p n t k : ℕ) → cond (eqb t 2) (cond (leb k 160) (Bytes k) (bad_value (RecordValueTooLong p))) (cond (eqb t 1) (bad_value (TagOutOfTurn p)) (cond (eqb t 3) (bad_value (TagOutOfTurn p)) (bad_value (UnknownTag p)))) ≡ Bytes n → (t ≡ 2) × (k ≡ n) × (k ≤ 160)
+value_parts : (p n t k : ℕ) → cond {A = Result ℕ Fault} (eqb t 2) (cond (leb k 160) (Ok k) (Err (RecordValueTooLong p))) (cond (eqb t 1) (Err (TagOutOfTurn p)) (cond (eqb t 3) (Err (TagOutOfTurn p)) (Err (UnknownTag p)))) ≡ Ok n → (t ≡ 2) × (k ≡ n) × (k ≤ 160)
 value_parts p n t k e =
     let tag : t ≡ 2 = grind (arith, nat_tests) in
     let long : k ≡ n = grind (arith, nat_tests) in
     let short : k ≤ 160 = grind (arith, nat_tests) in
     (tag, long, short)
 
-pub was_name : (p n : ℕ) (bs : List ℕ) (o : Option (ℕ × ℕ)) → judged_head p bs o ≡ Name n → (o ≡ Some (1, n)) × (good_name (body n bs) ≡ true)
+pub was_name : (p n : ℕ) (bs : List ℕ) (o : Option (ℕ × ℕ)) → judged_head p bs o ≡ Ok (Name n) → (o ≡ Some (1, n)) × (good_name (body n bs) ≡ true)
 was_name p n bs None e = absurd (let z : ◌≡◌ {A = ℕ} 0 1 = cc in omega arith)
 was_name p n bs (Some f) e =
     let parts = name_parts p n f.0 f.1 (good_name (body f.1 bs)) e in
     (λ i. Some (parts.0 i, parts.1 i), ap (λ k. good_name (body k bs)) (sym parts.1) ∙ parts.2)
 
-pub was_end : (p : ℕ) (bs : List ℕ) (o : Option (ℕ × ℕ)) → judged_head p bs o ≡ End → o ≡ Some (3, 0)
+pub was_end : (p : ℕ) (bs : List ℕ) (o : Option (ℕ × ℕ)) → judged_head p bs o ≡ Ok End → o ≡ Some (3, 0)
 was_end p bs None e = absurd (let z : ◌≡◌ {A = ℕ} 0 1 = cc in omega arith)
 was_end p bs (Some f) e =
     let parts = end_parts p f.0 f.1 (good_name (body f.1 bs)) e in
     λ i. Some (parts.0 i, parts.1 i)
 
-pub was_value : (p n : ℕ) (o : Option (ℕ × ℕ)) → judged_value p o ≡ Bytes n → (o ≡ Some (2, n)) × (n ≤ 160)
+pub was_value : (p n : ℕ) (o : Option (ℕ × ℕ)) → judged_value p o ≡ Ok n → (o ≡ Some (2, n)) × (n ≤ 160)
 was_value p n None e = absurd (let z : ◌≡◌ {A = ℕ} 0 1 = cc in omega arith)
 was_value p n (Some f) e =
     let parts = value_parts p n f.0 f.1 e in

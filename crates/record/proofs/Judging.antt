@@ -1,6 +1,7 @@
 -- Pairs that are judged before they are written. Assumes nothing.
 use Rattle.std.proofs.Common.{◌≡◌, ℕ, ◌+◌, ◌-◌, ◌*◌, ◌<◌, ◌≤◌, Bool, true, false, cond, ◌||◌, ltb, leb, List, [], ◌∷◌, ◌++◌, length, get_or, take, drop, Some, None, Ok, Err, All, Option, sym, refl, ap, ◌∙◌, subst, append_assoc, append-nil, arith}
 use Rattle.std.specs.Str.{bytes_eq}
+use Rattle.std.specs.List.{list_any}
 use Rattle.std.proofs.lemmas.List.{at_drop_more, at_drop_all, take_more, take-map, drop-map, map_push, length_push, length-take-le}
 use Rattle.std.proofs.lemmas.List.Elements.{All-nil, All-cons, All-head, All-tail}
 use Rattle.std.proofs.lemmas.Bool.{le-leb, lt-leb, lt-ltb, le-ltb, cond-true, cond-false}
@@ -14,19 +15,10 @@ use Rattle.record.specs.Writing.{pair_in, pairs_in, after_pair, wrong_pair, or_e
 use Rattle.record.specs.Law.{RefusedOrGood}
 use Rattle.record.proofs.Laws.{distinct_new, distinct_push, packed_more}
 
--- whether some pair has the name, one turn
-module _ (wanted : List ℕ) (ls : List Lent) (i : ℕ) (d : Lent) (h : i < length ls) where
-  named_next : (t : Bool) → bytes_eq (get_or ls i d).name.now wanted ≡ t → named wanted (pairs_in (drop i ls)) ≡ (t || named wanted (pairs_in (drop (i + 1) ls)))
-  named_next t same = at_drop_more (λ l. named wanted (pairs_in l)) ls i d h ∙ ap (λ b. b || named wanted (pairs_in (drop (i + 1) ls))) same
-
-  pub named_here : bytes_eq (get_or ls i d).name.now wanted ≡ true → named wanted (pairs_in (drop i ls)) ≡ named wanted (pairs_in ls) → true ≡ named wanted (pairs_in ls)
-  named_here same inv = sym (named_next true same) ∙ inv
-
-  pub named_goes : bytes_eq (get_or ls i d).name.now wanted ≡ false → named wanted (pairs_in (drop i ls)) ≡ named wanted (pairs_in ls) → named wanted (pairs_in (drop (i + 1) ls)) ≡ named wanted (pairs_in ls)
-  named_goes same inv = sym (named_next false same) ∙ inv
-
-pub named_ends : (wanted : List ℕ) (ls : List Lent) (i : ℕ) → length ls ≤ i → named wanted (pairs_in (drop i ls)) ≡ named wanted (pairs_in ls) → false ≡ named wanted (pairs_in ls)
-named_ends wanted ls i h inv = sym (at_drop_all (λ l. named wanted (pairs_in l)) ls i h) ∙ inv
+-- whether some pair that is lent has the name
+pub named_in : (wanted : List ℕ) (ls : List Lent) → named wanted (pairs_in ls) ≡ list_any (λ l. bytes_eq l.name.now wanted) ls
+named_in wanted [] = refl
+named_in wanted (l ∷ ls) = ap (λ b. bytes_eq l.name.now wanted || b) (named_in wanted ls)
 
 -- what a verdict was
 pub verdict_ok : (w : Option Refusal) (e n : ℕ) → Ok n ≡ verdict w e → (w ≡ None) × (n ≡ e)

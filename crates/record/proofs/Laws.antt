@@ -1,5 +1,5 @@
 -- Reading undoes writing. Assumes nothing.
-use Rattle.std.proofs.Common.{◌≡◌, ℕ, zero, suc, ◌+◌, ◌<◌, ◌≤◌, Bool, true, false, cond, List, [], ◌∷◌, ◌++◌, length, take, drop, All, sym, refl, ap, ◌∙◌, subst, ⊎_elim, append_assoc, append-nil, arith}
+use Rattle.std.proofs.Common.{◌≡◌, ℕ, zero, suc, ◌+◌, ◌<◌, ◌≤◌, Bool, true, false, cond, List, [], ◌∷◌, ◌++◌, length, take, drop, Ok, Err, All, Result, sym, refl, ap, ◌∙◌, subst, ⊎_elim, append_assoc, append-nil, arith}
 use Rattle.std.specs.Str.{bytes_eq}
 use Rattle.std.proofs.lemmas.List.{drop_at, length-append, length-take-le, take-append-drop}
 use Rattle.std.proofs.lemmas.List.Elements.{All-nil, All-cons, All-head, All-tail, All-push}
@@ -9,14 +9,12 @@ use Rattle.std.proofs.lemmas.Bool.{lt-ltb, le-ltb, eq-eqb, ne_eqb, cond-true, co
 use Rattle.fault.specs.declared.fault.Fault.{Fault}
 use Rattle.fault.specs.declared.fault.Fault.TheVariants.{FieldCutShort, TooManyNames, NameTwice}
 use Rattle.record.specs.declared.field.Head.{Head}
-use Rattle.record.specs.declared.field.Head.TheVariants.{Name, End, Refused as bad_head}
-use Rattle.record.specs.declared.field.Value.{Value}
-use Rattle.record.specs.declared.field.Value.TheVariants.{Bytes, Refused as bad_value}
+use Rattle.record.specs.declared.field.Head.TheVariants.{Name, End}
 use Rattle.record.specs.Format.{Pair, field, packed, Distinct, GoodPair, Good, Stands}
-use Rattle.record.specs.Reading.{found, none, faulty, split, body, head_of, value_of, on_head, on_value, named, with_value, with_name, reads, read_at}
+use Rattle.record.specs.Reading.{Answer, found, none, faulty, split, body, head_of, value_of, on_head, on_value, named, with_value, with_name, reads, read_at}
 use Rattle.record.specs.Names.{good_name}
 use Rattle.record.specs.Writing.{after_pair}
-use Rattle.record.specs.Law.{ReadsBack, WasWritten, ReadingUndoesWriting}
+use Rattle.record.specs.Law.{Law, ReadsBack, WasWritten, ReadingUndoesWriting}
 use Rattle.record.proofs.Fields.{body_field, past_field, head_name, head_end, value_bytes, long_field, was_field, good_short, was_name, was_end, was_value}
 use Rattle.record.proofs.Turns.{reads_end, reads_pair}
 
@@ -56,15 +54,15 @@ reads_written room ps p q tail good new short =
     let past : drop (3 + n) bs ≡ rest = past_field 1 a rest in
     let name : body n bs ≡ a = body_field 1 a rest in
     let fresh : named (body n bs) ps ≡ false = ap (λ x. named x ps) name ∙ new in
-    let is_value : Bytes (length b) ≡ value_of (p + (3 + n)) (drop (3 + n) bs) = sym (value_bytes (p + (3 + n)) b tail short) ∙ ap (value_of (p + (3 + n))) (sym past) in
-    let step = reads_pair ps p bs n (sym (head_name p a rest good)) room (length b) fresh is_value in
+    let is_value : value_of (p + (3 + n)) (drop (3 + n) bs) ≡ Ok (length b) = ap (value_of (p + (3 + n))) past ∙ value_bytes (p + (3 + n)) b tail short in
+    let step = reads_pair ps p bs n (head_name p a rest good) room (length b) fresh is_value in
     let value : body (length b) (drop (3 + n) bs) ≡ b = ap (body (length b)) past ∙ body_field 2 b tail in
     let on : drop (3 + length b) (drop (3 + n) bs) ≡ tail = ap (drop (3 + length b)) past ∙ past_field 2 b tail in
     step ∙ (λ i. reads room (ps ++ (name i, value i) ∷ []) (after_pair p q) (on i))
 
 -- what is written is read
 written : (qs : List Pair) (room : ℕ) (ps : List Pair) (p : ℕ) (after : List ℕ) → length qs ≤ room → All GoodPair qs → Distinct (ps ++ qs) → (e : ℕ) × (reads room ps p (packed qs ++ after) ≡ found (ps ++ qs) e (e + 3)) × (e + 3 ≡ p + length (packed qs))
-written [] room ps p after few good d = (p, reads_end ps p (packed [] ++ after) room (sym (head_end p after)) ∙ ap (λ l. found l p (p + 3)) (sym (append-nil ps)), refl)
+written [] room ps p after few good d = (p, reads_end ps p (packed [] ++ after) room (head_end p after) ∙ ap (λ l. found l p (p + 3)) (sym (append-nil ps)), refl)
 written (q ∷ qs) zero ps p after few good d = absurd (omega arith)
 written (q ∷ qs) (suc room) ps p after few good d =
     let p' = after_pair p q in
@@ -91,7 +89,7 @@ record Was (room : ℕ) (ps : List Pair) (p : ℕ) (bs : List ℕ) (qs : List Pa
   next : m ≡ p + length (packed more)
 
 -- an end
-was_ended : (room : ℕ) (ps : List Pair) (p : ℕ) (bs : List ℕ) (qs : List Pair) (e m : ℕ) → Distinct ps → head_of p bs ≡ End → found ps p (p + 3) ≡ found qs e m → Was room ps p bs qs e m
+was_ended : (room : ℕ) (ps : List Pair) (p : ℕ) (bs : List ℕ) (qs : List Pair) (e m : ℕ) → Distinct ps → head_of p bs ≡ Ok End → found ps p (p + 3) ≡ found qs e m → Was room ps p bs qs e m
 was_ended room ps p bs qs e m d h c =
     let pairs : ps ≡ qs = cc in
     let place : p ≡ e = cc in
@@ -99,7 +97,7 @@ was_ended room ps p bs qs e m d h c =
     record { more = []; after = drop (3 + 0) bs; is = sym pairs ∙ sym (append-nil ps); few = omega arith; good = All-nil GoodPair; distinct = subst Distinct pairs d; stands = was_field 3 0 bs (omega arith) (was_end p bs (split bs) h); ends = omega arith; next = sym after }
 
 -- a pair, and what comes after it
-was_pair : (room : ℕ) (ps : List Pair) (p : ℕ) (bs : List ℕ) (qs : List Pair) (e m n v : ℕ) → head_of p bs ≡ Name n → value_of (p + (3 + n)) (drop (3 + n) bs) ≡ Bytes v → Was room (ps ++ ((body n bs, body v (drop (3 + n) bs)) ∷ [])) (p + (3 + n) + (3 + v)) (drop (3 + v) (drop (3 + n) bs)) qs e m → Was (suc room) ps p bs qs e m
+was_pair : (room : ℕ) (ps : List Pair) (p : ℕ) (bs : List ℕ) (qs : List Pair) (e m n v : ℕ) → head_of p bs ≡ Ok (Name n) → value_of (p + (3 + n)) (drop (3 + n) bs) ≡ Ok v → Was room (ps ++ ((body n bs, body v (drop (3 + n) bs)) ∷ [])) (p + (3 + n) + (3 + v)) (drop (3 + v) (drop (3 + n) bs)) qs e m → Was (suc room) ps p bs qs e m
 was_pair room ps p bs qs e m n v h g w =
     let name = was_name p n bs (split bs) h in
     let rest = drop (3 + n) bs in
@@ -129,27 +127,27 @@ was_pair room ps p bs qs e m n v h g w =
 was : (room : ℕ) (ps : List Pair) (p : ℕ) (bs : List ℕ) (qs : List Pair) (e m : ℕ) → Distinct ps → reads room ps p bs ≡ found qs e m → Was room ps p bs qs e m
 was zero ps p bs qs e m d c = go (head_of p bs) refl c
   where
-    go : (h : Head) → head_of p bs ≡ h → on_head h ps p (λ n. faulty (TooManyNames p)) ≡ found qs e m → Was 0 ps p bs qs e m
-    go (Name n) i c = absurd (no_fault (TooManyNames p) c)
-    go End i c = was_ended 0 ps p bs qs e m d i c
-    go (bad_head f) i c = absurd (no_fault f c)
+    go : (h : Result Head Fault) → head_of p bs ≡ h → on_head h ps p (λ n. faulty (TooManyNames p)) ≡ found qs e m → Was 0 ps p bs qs e m
+    go (Ok (Name n)) i c = absurd (no_fault (TooManyNames p) c)
+    go (Ok End) i c = was_ended 0 ps p bs qs e m d i c
+    go (Err f) i c = absurd (no_fault f c)
 was (suc room) ps p bs qs e m d c = go (was room) (head_of p bs) refl c
   where
     Recur : Type 0
     Recur = (ps : List Pair) (p : ℕ) (bs : List ℕ) (qs : List Pair) (e m : ℕ) → Distinct ps → reads room ps p bs ≡ found qs e m → Was room ps p bs qs e m
 
-    value : Recur → (n : ℕ) → head_of p bs ≡ Name n → named (body n bs) ps ≡ false → (w : Value) → value_of (p + (3 + n)) (drop (3 + n) bs) ≡ w → on_value w (with_value (reads room) ps p bs n) ≡ found qs e m → Was (suc room) ps p bs qs e m
-    value recur n h t (Bytes v) i c = was_pair room ps p bs qs e m n v h i (recur _ _ _ qs e m (distinct_push ps (body n bs, body v (drop (3 + n) bs)) d t) c)
-    value recur n h t (bad_value f) i c = absurd (no_fault f c)
+    value : Recur → (n : ℕ) → head_of p bs ≡ Ok (Name n) → named (body n bs) ps ≡ false → (w : Result ℕ Fault) → value_of (p + (3 + n)) (drop (3 + n) bs) ≡ w → on_value w (with_value (reads room) ps p bs n) ≡ found qs e m → Was (suc room) ps p bs qs e m
+    value recur n h t (Ok v) i c = was_pair room ps p bs qs e m n v h i (recur _ _ _ qs e m (distinct_push ps (body n bs, body v (drop (3 + n) bs)) d t) c)
+    value recur n h t (Err f) i c = absurd (no_fault f c)
 
-    name : Recur → (n : ℕ) → head_of p bs ≡ Name n → (t : Bool) → named (body n bs) ps ≡ t → cond t (faulty (NameTwice p)) (on_value (value_of (p + (3 + n)) (drop (3 + n) bs)) (with_value (reads room) ps p bs n)) ≡ found qs e m → Was (suc room) ps p bs qs e m
+    name : Recur → (n : ℕ) → head_of p bs ≡ Ok (Name n) → (t : Bool) → named (body n bs) ps ≡ t → cond t (faulty (NameTwice p)) (on_value (value_of (p + (3 + n)) (drop (3 + n) bs)) (with_value (reads room) ps p bs n)) ≡ found qs e m → Was (suc room) ps p bs qs e m
     name recur n h true i c = absurd (no_fault (NameTwice p) c)
     name recur n h false i c = value recur n h i (value_of (p + (3 + n)) (drop (3 + n) bs)) refl c
 
-    go : Recur → (h : Head) → head_of p bs ≡ h → on_head h ps p (with_name (reads room) ps p bs) ≡ found qs e m → Was (suc room) ps p bs qs e m
-    go recur (Name n) i c = name recur n i (named (body n bs) ps) refl c
-    go recur End i c = was_ended (suc room) ps p bs qs e m d i c
-    go recur (bad_head f) i c = absurd (no_fault f c)
+    go : Recur → (h : Result Head Fault) → head_of p bs ≡ h → on_head h ps p (with_name (reads room) ps p bs) ≡ found qs e m → Was (suc room) ps p bs qs e m
+    go recur (Ok (Name n)) i c = name recur n i (named (body n bs) ps) refl c
+    go recur (Ok End) i c = was_ended (suc room) ps p bs qs e m d i c
+    go recur (Err f) i c = absurd (no_fault f c)
 
 -- the tests of a place
 read_inside : (input : List ℕ) (place : ℕ) → place < length input → read_at input place ≡ reads 64 [] place (drop place input)
@@ -198,3 +196,7 @@ was_read input place ps end next c = ⊎_elim inner outer (cases_lt place (lengt
 
 pub reading_undoes_writing : ReadingUndoesWriting
 reading_undoes_writing input place = record { back = back input place; was = was_read input place }
+
+-- the law of what is answered
+pub law_of : (input : List ℕ) (place : ℕ) (a : Answer) → a ≡ read_at input place → Law input place a
+law_of input place a e = subst (Law input place) (sym e) (reading_undoes_writing input place)

@@ -1,7 +1,8 @@
 -- What reading has to do with writing. Assumes nothing.
 use Rattle.std.specs.Prelude.{◌≡◌, ℕ, ◌+◌, cond, List, ◌++◌, length, is_ok, IfOk, Some, None, Option, Result}
+use Rattle.fault.specs.declared.fault.Fault.{Fault}
+use Rattle.fault.specs.declared.failure.Failure.{Failure}
 use Rattle.fault.specs.Refusal.{Refusal}
-use Rattle.record.specs.declared.writer.Unwritten.{Unwritten}
 use Rattle.record.specs.Format.{Pair, packed, Good, Stands}
 use Rattle.record.specs.Reading.{Answer, found, refused, read_at}
 use Rattle.record.specs.Writing.{refused_pairs, refusal_in, RefusedRoom}
@@ -49,7 +50,7 @@ abbrev pub ReaderAndWriterAgree : Type 0
 ReaderAndWriterAgree = (ps : List Pair) (input : List ℕ) (place : ℕ) → Stands ps input place → Agrees place ps (refused_pairs place ps) (read_at input place)
 
 -- What came of writing the pairs after the bytes `before`, where there was room for `room` bytes in all: the bytes `after`, and the answer.
-pub record Wrote (room : ℕ) (before after : List ℕ) (ps : List Pair) (r : Result (Unit {0}) Unwritten) : Type 0 where
+pub record Wrote (room : ℕ) (before after : List ℕ) (ps : List Pair) (r : Result (Unit {0}) (Failure Fault)) : Type 0 where
   -- the pairs are judged
   pub refuses : refusal_in r ≡ refused_pairs (length before) ps
   -- their written form is added, or nothing

@@ -1,4 +1,5 @@
 pub mod Names
+pub mod Tags
 pub mod Format
 pub mod Reading
 pub mod Answers

@@ -1,9 +1,10 @@
 -- What writing a record answers. Assumes nothing.
 use Rattle.std.specs.Prelude.{ℕ, ◌+◌, ◌<◌, cond, List, [], ◌∷◌, ◌++◌, map, length, Some, None, Ok, Err, Option, Result, nat_le, nat_lt}
+use Rattle.fault.specs.declared.fault.Fault.{Fault}
+use Rattle.fault.specs.declared.failure.Failure.{Failure}
+use Rattle.fault.specs.declared.failure.Failure.TheVariants.{Refused, NoMemory}
 use Rattle.fault.specs.Refusal.{Refusal, refusal_of, plain}
 use Rattle.record.specs.declared.writer.Pair.{Pair as Lent}
-use Rattle.record.specs.declared.writer.Unwritten.{Unwritten}
-use Rattle.record.specs.declared.writer.Unwritten.TheVariants.{Refused, NoMemory}
 use Rattle.record.specs.Names.{good_name}
 use Rattle.record.specs.Format.{Pair}
 use Rattle.record.specs.Reading.{named}
@@ -49,13 +50,13 @@ verdict None n = Ok n
 verdict (Some r) n = Err r
 
 -- The refusal that writing answered, if it did.
-abbrev pub refusal_in : {A : Type 0} → Result A Unwritten → Option Refusal
+abbrev pub refusal_in : {A : Type 0} → Result A (Failure Fault) → Option Refusal
 refusal_in (Ok x) = None
 refusal_in (Err (Refused f)) = Some (refusal_of f)
 refusal_in (Err NoMemory) = None
 
 -- Memory is refused only where the room that there was is too small.
-abbrev pub RefusedRoom : {A : Type 0} → Result A Unwritten → ℕ → ℕ → Type 0
+abbrev pub RefusedRoom : {A : Type 0} → Result A (Failure Fault) → ℕ → ℕ → Type 0
 RefusedRoom (Ok x) had needed = Unit {0}
 RefusedRoom (Err (Refused f)) had needed = Unit {0}
 RefusedRoom (Err NoMemory) had needed = had < needed

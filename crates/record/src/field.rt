@@ -1,144 +1,125 @@
 // One field: a tag, a length of two bytes, and that many bytes.
-ghost use Rattle.std.specs.Prelude.{◌≡◌, ◌+◌, ◌≤◌, true, length};
-ghost use Rattle.record.specs.Names.{lower, tail_byte, tail_bytes, good_name};
-ghost use Rattle.record.specs.Reading.{field_of, split, head_of, value_of, HeadLies, ValueLies};
+ghost use Rattle.std.specs.Prelude.{◌≡◌, ◌+◌, ◌≤◌, length, IfOk};
+ghost use Rattle.record.specs.Names.{tail_bytes, good_name};
+ghost use Rattle.record.specs.Tags.{byte_of, IsByteOf};
+ghost use Rattle.record.specs.Reading.{split, judged_field, head_of, value_of, HeadLies};
 
-use fault::Fault;
+use fault::fault::{Fault, MAX_VALUE};
 
-pub(crate) const NAME: u8 = 1;
+// What a field is.
+#[derive(Clone, Copy, PartialEq, Debug)]
+pub enum Tag {
+    Name,
+    Value,
+    End,
+}
 
-pub(crate) const VALUE: u8 = 2;
+// A byte that is no tag.
+#[derive(Clone, Copy, PartialEq, Debug)]
+pub struct NoTag;
 
-pub(crate) const END: u8 = 3;
+impl From<Tag> for u8 {
+    ghost from_gives = { λ tag byte. byte ≡ byte_of tag };
 
-// How many bytes a name and a value have at most.
+    fn from(tag: Tag) -> u8 {
+        match tag {
+            Tag::Name => 1,
+            Tag::Value => 2,
+            Tag::End => 3,
+        }
+    }
+}
+
+impl TryFrom<u8> for Tag {
+    type Error = NoTag;
+
+    ghost try_from_gives = { IsByteOf };
+
+    fn try_from(byte: u8) -> Result<Tag, NoTag> {
+        match byte {
+            1 => Ok(Tag::Name),
+            2 => Ok(Tag::Value),
+            3 => Ok(Tag::End),
+            _ => Err(NoTag),
+        }
+    }
+}
+
+// How many bytes a name has at most.
 const NAME_MOST: usize = 16;
 
-pub(crate) const VALUE_MOST: usize = 160;
-
-// A field's tag and length, if it is whole.
+// What a whole field is, and how many bytes follow its tag and its length.
 #[derive(Clone, Copy)]
 pub struct Field {
-    pub whole: bool,
-    pub tag: u8,
+    pub tag: Tag,
     pub len: usize,
 }
 
 // What may stand first in a record or after a value.
 #[derive(Clone, Copy)]
 pub enum Head {
+    // A name of so many bytes.
     Name(usize),
     End,
-    Refused(Fault),
 }
 
-// What may stand after a name.
-#[derive(Clone, Copy)]
-pub enum Value {
-    Bytes(usize),
-    Refused(Fault),
-}
-
-fn is_lower(byte: u8) -> bool
-    ensures { result ≡ lower byte }
-{
-    byte >= b'a' && byte <= b'z'
-}
-
-fn is_tail(byte: u8) -> bool
-    ensures { result ≡ tail_byte byte }
-{
-    is_lower(byte) || (byte >= b'0' && byte <= b'9') || byte == b'_'
-}
-
+// Whether the bytes may come after the first of a name.
 fn all_tail(bytes: &[u8]) -> bool
     ensures { result ≡ tail_bytes bytes.now }
 {
-    for byte in bytes {
-        if !is_tail(*byte) {
-            return false;
-        }
-    }
-    true
+    bytes
+        .iter()
+        .all(|byte| matches!(byte, b'a'..=b'z' | b'0'..=b'9' | b'_'))
 }
 
 pub(crate) fn is_name(name: &[u8]) -> bool
     ensures { result ≡ good_name name.now }
 {
-    match name {
-        [first, rest @ ..] => is_lower(*first) && rest.len() < NAME_MOST && all_tail(rest),
-        [] => false,
-    }
+    matches!(name, [b'a'..=b'z', rest @ ..] if rest.len() < NAME_MOST && all_tail(rest))
 }
 
-pub fn split_field(bytes: &[u8]) -> Field
-    ensures is { field_of result ≡ split bytes.now }
-    ensures lies { result.whole ≡ true → 3 + result.len ≤ length bytes.now }
+// The field at `place`, whose bytes begin with it.
+pub fn split_field(bytes: &[u8], place: usize) -> Result<Field, Fault>
+    ensures is { judged_field place (split bytes.now) result }
+    ensures lies { IfOk result (λ field. 3 + field.len ≤ length bytes.now) }
 {
-    match bytes {
-        [tag, high, low, rest @ ..] => {
-            let len = *high as usize * 256 + *low as usize;
-            Field {
-                whole: len <= rest.len(),
-                tag: *tag,
-                len,
-            }
-        }
-        _ => Field {
-            whole: false,
-            tag: 0,
-            len: 0,
-        },
+    let [tag, high, low, rest @ ..] = bytes else {
+        return Err(Fault::FieldCutShort { place });
+    };
+    let len = usize::from(u16::from_be_bytes([*high, *low]));
+    if len > rest.len() {
+        return Err(Fault::FieldCutShort { place });
+    }
+    match Tag::try_from(*tag) {
+        Ok(tag) => Ok(Field { tag, len }),
+        Err(NoTag) => Err(Fault::UnknownTag { place }),
     }
 }
 
 // The field at `place`, whose bytes begin with it, where a name or the end is due.
-pub fn judge_head(bytes: &[u8], place: usize) -> Head
+pub fn judge_head(bytes: &[u8], place: usize) -> Result<Head, Fault>
     ensures is { result ≡ head_of place bytes.now }
-    ensures lies { HeadLies result (length bytes.now) }
+    ensures lies { IfOk result (λ head. HeadLies head (length bytes.now)) }
 {
-    let field = split_field(bytes);
-    if !field.whole {
-        return Head::Refused(Fault::FieldCutShort { place });
-    }
-    match field.tag {
-        NAME => {
-            if is_name(&bytes[3..3 + field.len]) {
-                Head::Name(field.len)
-            } else {
-                Head::Refused(Fault::BadRecordName { place })
-            }
-        }
-        VALUE => Head::Refused(Fault::TagOutOfTurn { place }),
-        END => {
-            if field.len == 0 {
-                Head::End
-            } else {
-                Head::Refused(Fault::EndWithLength { place })
-            }
-        }
-        _ => Head::Refused(Fault::UnknownTag { place }),
+    let Field { tag, len } = split_field(bytes, place)?;
+    match tag {
+        Tag::Name if is_name(&bytes[3..3 + len]) => Ok(Head::Name(len)),
+        Tag::Name => Err(Fault::BadRecordName { place }),
+        Tag::Value => Err(Fault::TagOutOfTurn { place }),
+        Tag::End if len == 0 => Ok(Head::End),
+        Tag::End => Err(Fault::EndWithLength { place }),
     }
 }
 
-// The field at `place`, whose bytes begin with it, where a value is due.
-pub fn judge_value(bytes: &[u8], place: usize) -> Value
+// The length of the value at `place`, whose bytes begin with its field.
+pub fn judge_value(bytes: &[u8], place: usize) -> Result<usize, Fault>
     ensures is { result ≡ value_of place bytes.now }
-    ensures lies { ValueLies result (length bytes.now) }
+    ensures lies { IfOk result (λ len. 3 + len ≤ length bytes.now) }
 {
-    let field = split_field(bytes);
-    if !field.whole {
-        return Value::Refused(Fault::FieldCutShort { place });
-    }
-    match field.tag {
-        VALUE => {
-            if field.len <= VALUE_MOST {
-                Value::Bytes(field.len)
-            } else {
-                Value::Refused(Fault::RecordValueTooLong { place })
-            }
-        }
-        NAME | END => Value::Refused(Fault::TagOutOfTurn { place }),
-        _ => Value::Refused(Fault::UnknownTag { place }),
+    let Field { tag, len } = split_field(bytes, place)?;
+    match tag {
+        Tag::Value if len <= MAX_VALUE => Ok(len),
+        Tag::Value => Err(Fault::RecordValueTooLong { place }),
+        Tag::Name | Tag::End => Err(Fault::TagOutOfTurn { place }),
     }
 }

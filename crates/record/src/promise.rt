@@ -2,15 +2,11 @@
 ghost use Rattle.record.specs.Law.{RefusedOrGood, ReaderAndWriterAgree};
 
 // The writer refuses just the pairs that are no good record.
-pub fn refused_or_good() -> u8
+pub fn refused_or_good()
     ensures { RefusedOrGood }
-{
-    0
-}
+{}
 
 // Where pairs stand in written form, the reader refuses what the writer refuses, at the same place, and else gives the pairs back.
-pub fn reader_and_writer_agree() -> u8
+pub fn reader_and_writer_agree()
     ensures { ReaderAndWriterAgree }
-{
-    0
-}
+{}

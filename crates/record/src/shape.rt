@@ -2,14 +2,14 @@
 use fault::Fault;
 
 // Some bytes of the input.
-#[derive(Clone, Copy, PartialEq, Debug)]
+#[derive(Clone, Copy, PartialEq, Debug, Default)]
 pub struct Span {
     pub place: usize,
     pub len: usize,
 }
 
 // A pair of a record: where its name and its value lie.
-#[derive(Clone, Copy, PartialEq, Debug)]
+#[derive(Clone, Copy, PartialEq, Debug, Default)]
 pub struct Entry {
     pub name: Span,
     pub value: Span,
@@ -39,11 +39,4 @@ pub struct Record {
     pub end: usize,
     pub next: usize,
     pub fault: Fault,
-}
-
-// Where the value of a name lies, if the name is there.
-#[derive(Clone, Copy, PartialEq, Debug)]
-pub struct Lookup {
-    pub found: bool,
-    pub value: Span,
 }

@@ -1,16 +1,16 @@
 // Writes records in the form in which they are read.
 ghost use Rattle.std.specs.Prelude.{◌≡◌, ◌+◌, ◌^◌, ◌<◌, ◌≤◌, ◌++◌, length, IfOk, vec_len, vec_capacity};
 ghost use Rattle.fault.specs.Refusal.{told};
+ghost use Rattle.record.specs.Tags.{byte_of};
 ghost use Rattle.record.specs.Format.{field, packed, Good};
 ghost use Rattle.record.specs.Law.{Wrote};
 ghost use Rattle.record.specs.Reading.{named};
 ghost use Rattle.record.specs.Writing.{pair_in, pairs_in, after_pair, wrong_pair, refused_pairs, verdict};
-ghost use Rattle.record.specs.declared.writer.Unwritten.TheVariants.{Refused, NoMemory};
 
-use crate::field::{END, NAME, VALUE, VALUE_MOST, is_name};
+use crate::field::{Tag, is_name};
 use crate::shape::MOST;
-use fault::Fault;
-use std::alloc::AllocError;
+use fault::Failure;
+use fault::fault::{Fault, MAX_VALUE};
 
 // A name and a value.
 #[derive(Clone, Copy)]
@@ -19,39 +19,11 @@ pub struct Pair<'a> {
     pub value: &'a [u8],
 }
 
-// Why a record is not written: a pair may not stand in it, or there is no memory for its bytes.
-#[derive(Clone, Copy)]
-pub enum Unwritten {
-    Refused(Fault),
-    NoMemory,
-}
-
-impl From<Fault> for Unwritten {
-    ghost from_gives = { λ fault unwritten. unwritten ≡ Refused fault };
-
-    fn from(fault: Fault) -> Unwritten {
-        Unwritten::Refused(fault)
-    }
-}
-
-impl From<AllocError> for Unwritten {
-    ghost from_gives = { λ _ unwritten. unwritten ≡ NoMemory };
-
-    fn from(_: AllocError) -> Unwritten {
-        Unwritten::NoMemory
-    }
-}
-
 // Whether one of the pairs has the name.
 fn has_name(pairs: &[Pair<'_>], name: &[u8]) -> bool
     ensures { result ≡ named name.now (pairs_in pairs.now) }
 {
-    for pair in pairs {
-        if pair.name == name {
-            return true;
-        }
-    }
-    false
+    pairs.iter().any(|pair| pair.name == name)
 }
 
 // The place after a pair whose name's tag would stand at `place`, after the earlier pairs, or why it may not stand there.
@@ -71,7 +43,7 @@ fn judge_pair(earlier: &[Pair<'_>], pair: Pair<'_>, place: usize) -> Result<usiz
         return Err(Fault::NameTwice { place });
     }
     let due = place + (3 + pair.name.len());
-    if pair.value.len() > VALUE_MOST {
+    if pair.value.len() > MAX_VALUE {
         return Err(Fault::RecordValueTooLong { place: due });
     }
     Ok(due + (3 + pair.value.len()))
@@ -90,14 +62,14 @@ fn judge_pairs(pairs: &[Pair<'_>], place: usize) -> Result<usize, Fault>
 }
 
 // Adds a field, for which there is room.
-fn put_field(file: &mut Vec<u8>, tag: u8, bytes: &[u8])
+fn put_field(file: &mut Vec<u8>, tag: Tag, bytes: &[u8])
     requires short { length bytes.now < 65536 }
     requires room { vec_len file.old + (3 + length bytes.now) ≤ vec_capacity file.old }
-    ensures items { file.new.items ≡ file.old.items ++ field tag bytes.now }
+    ensures items { file.new.items ≡ file.old.items ++ field (byte_of tag) bytes.now }
     ensures capacity { vec_capacity file.old ≤ vec_capacity file.new }
 {
-    let head = [tag, (bytes.len() / 256) as u8, (bytes.len() % 256) as u8];
-    let _ = file.extend_from_slice(&head);
+    let [high, low] = (bytes.len() as u16).to_be_bytes();
+    let _ = file.extend_from_slice(&[tag.into(), high, low]);
     let _ = file.extend_from_slice(bytes);
 }
 
@@ -108,14 +80,14 @@ fn put_record(file: &mut Vec<u8>, pairs: &[Pair<'_>])
     ensures { file.new.items ≡ file.old.items ++ packed (pairs_in pairs.now) }
 {
     for pair in pairs {
-        put_field(file, NAME, pair.name);
-        put_field(file, VALUE, pair.value);
+        put_field(file, Tag::Name, pair.name);
+        put_field(file, Tag::Value, pair.value);
     }
-    put_field(file, END, &[]);
+    put_field(file, Tag::End, &[]);
 }
 
 // Adds the written form of a record to the end of a file's bytes, or leaves them as they are.
-pub fn write_record(file: &mut Vec<u8>, pairs: &[Pair<'_>]) -> Result<(), Unwritten>
+pub fn write_record(file: &mut Vec<u8>, pairs: &[Pair<'_>]) -> Result<(), Failure<Fault>>
     ensures { Wrote (vec_capacity file.old) file.old.items file.new.items (pairs_in pairs.now) result }
 {
     let len = judge_pairs(pairs, file.len())?;

@@ -3,8 +3,8 @@ use Rattle.record.specs.Reading.{read_at}
 use Rattle.record.proofs.Turns.{Sofar}
 use Rattle.record.proofs.read_pairs.Given as goal
 
-abbrev pub invariant-pairs : goal.invariant-pairs
-invariant-pairs l = Sofar l.input (read_at l.input l.place) l.entries l.count l.at
+abbrev pub invariant-loop-len : goal.invariant-loop-len
+invariant-loop-len l = Sofar l.input (read_at l.input l.place) l.entries l.count l.at
 
-abbrev pub decreases-pairs : goal.decreases-pairs
-decreases-pairs l = 64 - l.count
+abbrev pub decreases-loop-len : goal.decreases-loop-len
+decreases-loop-len l = 64 - l.count

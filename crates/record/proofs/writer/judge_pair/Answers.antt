@@ -23,9 +23,9 @@ returns-then-has_name c = record {
   near = tt;
 }
 
-pub returns-then-pair-gt-VALUE_MOST : goal.returns-then-pair-gt-VALUE_MOST
-returns-then-pair-gt-VALUE_MOST c = record {
-  judges = ap (λ w. verdict w (after_pair c.args.place (pair_in c.args.pair))) (sym (wrong_value (pairs_in c.args.earlier.now) c.args.place (pair_in c.args.pair) (sym c.if-not-is_name.ensures) (few (goal.at.returns-then-pair-gt-VALUE_MOST c).After-has_name) (sym c.if-has_name.ensures) c.if-pair-gt-VALUE_MOST.true));
+pub returns-then-pair-gt-MAX_VALUE : goal.returns-then-pair-gt-MAX_VALUE
+returns-then-pair-gt-MAX_VALUE c = record {
+  judges = ap (λ w. verdict w (after_pair c.args.place (pair_in c.args.pair))) (sym (wrong_value (pairs_in c.args.earlier.now) c.args.place (pair_in c.args.pair) (sym c.if-not-is_name.ensures) (few (goal.at.returns-then-pair-gt-MAX_VALUE c).After-has_name) (sym c.if-has_name.ensures) c.if-pair-gt-MAX_VALUE.true));
   near = tt;
 }
 
