@@ -11,10 +11,10 @@ use Rattle.host.proofs.Chains.{inside, none_some}
 use Rattle.fault.specs.declared.fault.Fault.{Fault}
 use Rattle.reading.specs.declared.cursor.Cursor.{Cursor}
 use Rattle.fault.specs.Refusal.{Refusal, refusal_of, told, plain}
-use Rattle.reading.specs.Listing.{bytes_of, field, fields, by_step, read_before, by_reading, listing, answer_of, output}
-use Rattle.reading.specs.Cursors.{close_cursor, keep_cursor, after_cursor, reach, write_close, write_middle, write_effect}
+use Rattle.reading.specs.Listing.{bytes_of, field, fields, by_step, read_before, by_reading, listing}
+use Rattle.reading.specs.Cursors.{close_cursor, keep_cursor, after_cursor, write_close, write_middle, write_effect}
 use Rattle.reading.specs.Passes.{origin, measure_end, measure_step, measured, write_end, write_step, written}
-use Rattle.reading.proofs.Turns.{OpenHeld, close_reach, keep_reach, within, open_more, end_empty}
+use Rattle.reading.proofs.Reach.{reach, OpenHeld, close_reach, keep_reach, within, open_more, end_empty}
 use Rattle.reading.proofs.Layouts.{lay, lay_empty, lay_head, lay_byte}
 
 fields_append : (ts us : List Token) → fields (ts ++ us) ≡ fields ts ++ fields us
@@ -147,40 +147,40 @@ module _ (old : List ℕ) where
     pub writes_reading : (bs : List ℕ) (ts : List Token) → reading m bs ≡ Some ts → length (fields ts) ≤ length old → written m bs 0 origin old ≡ fields ts ++ drop (length (fields ts)) old
     writes_reading bs ts e fits = ap (written m bs 0 origin) (sym (lay_empty old [])) ∙ writes bs start ts (λ lt. absurd (omega arith)) e fits
 
--- what is answered and written, at each way out
-pub record Ends (o : Option (List Token)) (p : ℕ) (out : List ℕ) (r : Result ℕ Refusal) (after : List ℕ) : Type 0 where
-  pub answers : r ≡ answer_of (by_reading o p (length out))
-  pub holds_out : after ≡ output (by_reading o p (length out)) out
+-- what the first pass tells of the listing of a text that is not too long
+module _ (m : Meaning) (bs : List ℕ) (n : ℕ) (few : length bs ≤ 65534) where
+  listing_short : listing m bs n ≡ by_reading (reading m bs) (read_before m bs start) n
+  listing_short = cond-false _ _ _ (le-ltb 65534 (length bs) few)
 
-pub ends_refused : (o : Option (List Token)) (p : ℕ) (out : List ℕ) (f : Fault) → told {A = ℕ} (Err f) ≡ sized o p → Ends o p out (Err (refusal_of f)) out
-ends_refused None p out f e = record { answers = e; holds_out = refl }
-ends_refused (Some ts) p out f e = absurd (let z : ◌≡◌ {A = ℕ} 0 1 = cc in omega arith)
+  pub listing_refused : (f : Fault) → measured m bs 0 origin 0 ≡ Err f → listing m bs n ≡ Err (refusal_of f)
+  listing_refused f e = listing_short ∙ go (reading m bs) (sym (measures_reading m bs) ∙ ap told e)
+    where
+      go : (o : Option (List Token)) → sized o (read_before m bs start) ≡ told {A = ℕ} (Err f) → by_reading o (read_before m bs start) n ≡ Err (refusal_of f)
+      go None e = cc
+      go (Some ts) e = absurd (let z : ◌≡◌ {A = ℕ} 0 1 = cc in omega arith)
 
-pub ends_short : (o : Option (List Token)) (p : ℕ) (out : List ℕ) (t : ℕ) → Ok t ≡ sized o p → length out < t → Ends o p out (Err (plain 17 t)) out
-ends_short None p out t e lt = absurd (let z : ◌≡◌ {A = ℕ} 0 1 = cc in omega arith)
-ends_short (Some ts) p out t e lt =
-    let same : t ≡ length (fields ts) = cc in
-    let short : by_reading (Some ts) p (length out) ≡ Err (plain 17 (length (fields ts))) = cond-true _ _ _ (lt-ltb (length out) (length (fields ts)) (omega arith)) in
-    let number : ℕ → Result ℕ Refusal = λ n. Err (plain 17 n) in
-    record { answers = ap number same ∙ ap answer_of (sym short); holds_out = ap (λ r. output r out) (sym short) }
+  pub listing_unfit : (t : ℕ) → measured m bs 0 origin 0 ≡ Ok t → n < t → listing m bs n ≡ Err (plain 17 t)
+  listing_unfit t e lt = listing_short ∙ go (reading m bs) (sym (measures_reading m bs) ∙ ap told e)
+    where
+      go : (o : Option (List Token)) → sized o (read_before m bs start) ≡ told (Ok t) → by_reading o (read_before m bs start) n ≡ Err (plain 17 t)
+      go None e = absurd (let z : ◌≡◌ {A = ℕ} 0 1 = cc in omega arith)
+      go (Some ts) e =
+          let same : length (fields ts) ≡ t = cc in
+          cond-true _ _ _ (lt-ltb n (length (fields ts)) (omega arith)) ∙ ap (λ k. Err (plain 17 k)) same
 
-pub ends_listed : (o : Option (List Token)) (p : ℕ) (out after : List ℕ) (t : ℕ) → Ok t ≡ sized o p → t ≤ length out → ((ts : List Token) → o ≡ Some ts → length (fields ts) ≤ length out → after ≡ fields ts ++ drop (length (fields ts)) out) → Ends o p out (Ok t) after
-ends_listed None p out after t e le w = absurd (let z : ◌≡◌ {A = ℕ} 0 1 = cc in omega arith)
-ends_listed (Some ts) p out after t e le w =
-    let same : t ≡ length (fields ts) = cc in
-    let fine : by_reading (Some ts) p (length out) ≡ Ok (fields ts) = cond-false _ _ _ (le-ltb (length out) (length (fields ts)) (omega arith)) in
-    let number : ℕ → Result ℕ Refusal = λ n. Ok n in
-    record { answers = ap number same ∙ ap answer_of (sym fine); holds_out = w ts refl (omega arith) ∙ ap (λ r. output r out) (sym fine) }
+  -- the fields of the tokens that are read, where there is room for them
+  pub record Listed (t : ℕ) : Type 0 where
+    pub tokens : List Token
+    pub read : reading m bs ≡ Some tokens
+    pub listed : listing m bs n ≡ Ok (fields tokens)
+    pub long : length (fields tokens) ≡ t
 
--- so of a text that is not too long
-pub listing_short : (m : Meaning) (bs : List ℕ) (n : ℕ) → length bs ≤ 65534 → listing m bs n ≡ by_reading (reading m bs) (read_before m bs start) n
-listing_short m bs n h = cond-false _ _ _ (le-ltb 65534 (length bs) h)
-
-pub record Lists (m : Meaning) (bs out : List ℕ) (r : Result ℕ Refusal) (after : List ℕ) : Type 0 where
-  pub answers : r ≡ answer_of (listing m bs (length out))
-  pub holds_out : after ≡ output (listing m bs (length out)) out
-
-pub lists : (m : Meaning) (bs out : List ℕ) (r : Result ℕ Refusal) (after : List ℕ) → length bs ≤ 65534 → Ends (reading m bs) (read_before m bs start) out r after → Lists m bs out r after
-lists m bs out r after h e =
-    let same = sym (listing_short m bs (length out) h) in
-    record { answers = e.answers ∙ ap answer_of same; holds_out = e.holds_out ∙ ap (λ l. output l out) same }
+  pub listing_fits : (t : ℕ) → measured m bs 0 origin 0 ≡ Ok t → t ≤ n → Listed t
+  listing_fits t e le = go (reading m bs) refl (sym (measures_reading m bs) ∙ ap told e)
+    where
+      go : (o : Option (List Token)) → reading m bs ≡ o → sized o (read_before m bs start) ≡ told (Ok t) → Listed t
+      go None is e = absurd (let z : ◌≡◌ {A = ℕ} 0 1 = cc in omega arith)
+      go (Some ts) is e =
+          let same : length (fields ts) ≡ t = cc in
+          let fine = cond-false _ (Err (plain 17 (length (fields ts)))) (Ok (fields ts)) (le-ltb n (length (fields ts)) (omega arith)) in
+          record { tokens = ts; read = is; listed = listing_short ∙ ap (λ o. by_reading o (read_before m bs start) n) is ∙ fine; long = same }
