@@ -19,11 +19,11 @@ use Rattle.reading.proofs.Layouts.{lay, lay_empty, lay_head, lay_byte}
 
 fields_append : (ts us : List Token) → fields (ts ++ us) ≡ fields ts ++ fields us
 fields_append [] us = refl
-fields_append (t ∷ ts) us = ap (λ l. field t.kind (bytes_of t.value) ++ l) (fields_append ts us) ∙ sym (append_assoc (field t.kind (bytes_of t.value)) (fields ts) (fields us))
+fields_append (t ∷ ts) us = simp (fields_append ts us, append_assoc)
 
 pub bytes_append : (xs ys : List Symbol) → bytes_of (xs ++ ys) ≡ bytes_of xs ++ bytes_of ys
 bytes_append [] ys = refl
-bytes_append (byte b ∷ xs) ys = ap (λ l. b ∷ l) (bytes_append xs ys)
+bytes_append (byte b ∷ xs) ys = rw (bytes_append xs ys)
 bytes_append (mark k ∷ xs) ys = bytes_append xs ys
 
 -- the bytes of the open token, and the cursor of a state
@@ -34,28 +34,22 @@ abbrev pub cursor_of : State → Cursor
 cursor_of s = record { at = length (fields s.closed); held = length (holding s) }
 
 fields_close : (k : ℕ) (s : State) → fields (close (Some k) s).closed ≡ fields s.closed ++ field k (holding s)
-fields_close k s = fields_append s.closed (record { kind = k; value = opened s.current } ∷ []) ∙ ap (λ l. fields s.closed ++ l) (append-nil (field k (holding s)))
-
-hold_open : (s : State) → holding (add [] s) ≡ holding s
-hold_open s = ap bytes_of (append-nil (opened s.current))
-
-hold_byte : (b : ℕ) (s : State) → holding (add (byte b ∷ []) s) ≡ holding s ++ b ∷ []
-hold_byte b s = bytes_append (opened s.current) (byte b ∷ [])
+fields_close k s = simp (fields_append, append-nil)
 
 -- marks follow states
 cursor_close : (o : Option ℕ) (s : State) → cursor_of (close o s) ≡ close_cursor o (cursor_of s)
 cursor_close None s = refl
 cursor_close (Some k) s =
-    let at : length (fields (close (Some k) s).closed) ≡ length (fields s.closed) + (3 + length (holding s)) = ap length (fields_close k s) ∙ length-append (fields s.closed) (field k (holding s)) ∙ ap (λ j. length (fields s.closed) + j) (omega arith) in
-    λ i. record { at = at i; held = 0 }
+    let at : length (fields (close (Some k) s).closed) ≡ length (fields s.closed) + (3 + length (holding s)) = simp (fields_close, length-append) (omega arith) in
+    cc
 
 cursor_middle : (d : Middle) (s : State) → cursor_of (do_middle d s) ≡ keep_cursor d (cursor_of s)
 cursor_middle Nothing s = refl
-cursor_middle Open s = λ i. record { at = length (fields s.closed); held = length (hold_open s i) }
-cursor_middle (Keep b) s = let held = ap length (hold_byte b s) ∙ length_push (holding s) b in λ i. record { at = length (fields s.closed); held = held i }
+cursor_middle Open s = simp append-nil
+cursor_middle (Keep b) s = simp (bytes_append, length_push)
 
 cursor_apply : (e : Effect) (s : State) → cursor_of (apply e s) ≡ after_cursor e (cursor_of s)
-cursor_apply e s = cursor_close e.last (do_middle e.middle (close e.first s)) ∙ ap (close_cursor e.last) (cursor_middle e.middle (close e.first s) ∙ ap (keep_cursor e.middle) (cursor_close e.first s))
+cursor_apply e s = let one = close e.first s in rw (cursor_close e.last (do_middle e.middle one), cursor_middle e.middle one, cursor_close e.first s)
 
 -- the first pass
 abbrev pub sized : Option (List Token) → ℕ → Result ℕ Refusal
@@ -64,22 +58,22 @@ sized (Some ts) p = Ok (length (fields ts))
 
 module _ (m : Meaning) where
   end_is : (o : Option Effect) (s : State) (p : ℕ) → told (measure_end o (cursor_of s) p) ≡ sized (chain o (λ e. Some (apply e s).closed)) (p + 0)
-  end_is None s p = ap (λ j. sized None j) (sym (add-zero p))
-  end_is (Some e) s p = ap (λ k. told (Ok k.at)) (sym (cursor_apply e s))
+  end_is None s p = simp add-zero
+  end_is (Some e) s p = let same = cursor_apply e s in cc
 
   step_is : (bs : List ℕ) → ((s : State) (p : ℕ) → told (measured m bs s.context (cursor_of s) p) ≡ sized (chain (read_bytes m bs s) (read_end m)) (p + read_before m bs s)) → (o : Option (ℕ × Effect)) (s : State) (p : ℕ) → told (measure_step o (cursor_of s) p (measured m bs)) ≡ sized (chain (chain (chain o (λ r. Some (enter r.0 (apply r.1 s)))) (read_bytes m bs)) (read_end m)) (p + by_step (chain o (λ r. Some (enter r.0 (apply r.1 s)))) (read_before m bs))
-  step_is bs recur None s p = ap (λ j. sized None j) (sym (add-zero p))
+  step_is bs recur None s p = simp add-zero
   step_is bs recur (Some r) s p =
       let t = enter r.0 (apply r.1 s) in
       let place : p + 1 + read_before m bs t ≡ p + suc (read_before m bs t) = omega arith in
-      ap (λ k. told (measured m bs r.0 k (p + 1))) (sym (cursor_apply r.1 s)) ∙ recur t (p + 1) ∙ ap (λ j. sized (chain (read_bytes m bs t) (read_end m)) j) place
+      rw (← cursor_apply r.1 s, ← place) (recur t (p + 1))
 
   pub measure_is : (bs : List ℕ) (s : State) (p : ℕ) → told (measured m bs s.context (cursor_of s) p) ≡ sized (chain (read_bytes m bs s) (read_end m)) (p + read_before m bs s)
   measure_is [] s p = end_is (m.end s.context) s p
   measure_is (b ∷ bs) s p = step_is bs (measure_is bs) (m.step s.context b) s p
 
   pub measures_reading : (bs : List ℕ) → told (measured m bs 0 origin 0) ≡ sized (reading m bs) (read_before m bs start)
-  measures_reading bs = measure_is bs start 0 ∙ ap (λ j. sized (reading m bs) j) (zero-add (read_before m bs start))
+  measures_reading bs = let e = measure_is bs start 0 in simp zero-add at e
 
 -- the second pass
 abbrev layout : List ℕ → State → List ℕ
@@ -88,12 +82,12 @@ layout old s = lay old (fields s.closed) (holding s)
 module _ (old : List ℕ) where
   lay_close : (o : Option ℕ) (s : State) → reach (close_cursor o (cursor_of s)) ≤ length old → write_close o (cursor_of s) (layout old s) ≡ layout old (close o s)
   lay_close None s fits = refl
-  lay_close (Some k) s fits = lay_head old (fields s.closed) (holding s) k (omega arith) ∙ ap (λ l. lay old l []) (sym (fields_close k s))
+  lay_close (Some k) s fits = rw (fields_close k s) (lay_head old (fields s.closed) (holding s) k (omega arith))
 
   lay_middle : (d : Middle) (s : State) → reach (keep_cursor d (cursor_of s)) ≤ length old → write_middle d (cursor_of s) (layout old s) ≡ layout old (do_middle d s)
   lay_middle Nothing s fits = refl
-  lay_middle Open s fits = ap (lay old (fields s.closed)) (sym (hold_open s))
-  lay_middle (Keep b) s fits = lay_byte old (fields s.closed) (holding s) b (omega arith) ∙ ap (lay old (fields s.closed)) (sym (hold_byte b s))
+  lay_middle Open s fits = simp append-nil
+  lay_middle (Keep b) s fits = rw (bytes_append (opened s.current) (byte b ∷ [])) (lay_byte old (fields s.closed) (holding s) b (omega arith))
 
   lay_effect : (e : Effect) (s : State) → reach (after_cursor e (cursor_of s)) ≤ length old → write_effect e (cursor_of s) (layout old s) ≡ layout old (apply e s)
   lay_effect e s fits =
@@ -110,8 +104,8 @@ module _ (old : List ℕ) where
       (λ i. write_close e.last (sym middle i) (write_middle e.middle (sym first i) (a i))) ∙ ap (write_close e.last (cursor_of two)) b ∙ c
 
   told_ok : (r : Result ℕ Fault) (t : ℕ) → told r ≡ Ok t → r ≡ Ok t
-  told_ok (Ok x) t e = let same : x ≡ t = cc in ap Ok same
-  told_ok (Err f) t e = absurd (let z : ◌≡◌ {A = ℕ} 0 1 = cc in omega arith)
+  told_ok (Ok x) t e = cc
+  told_ok (Err f) t e = cc
 
   module _ (m : Meaning) (sound : Sound m) where
     measured_ok : (bs : List ℕ) (s : State) (p : ℕ) (ts : List Token) → chain (read_bytes m bs s) (read_end m) ≡ Some ts → measured m bs s.context (cursor_of s) p ≡ Ok (length (fields ts))
@@ -121,7 +115,7 @@ module _ (old : List ℕ) where
     Writes bs = (s : State) (ts : List Token) → OpenHeld m s.context (cursor_of s) → chain (read_bytes m bs s) (read_end m) ≡ Some ts → length (fields ts) ≤ length old → written m bs s.context (cursor_of s) (layout old s) ≡ fields ts ++ drop (length (fields ts)) old
 
     end_writes : (o : Option Effect) (s : State) (ts : List Token) → o ≡ m.end s.context → OpenHeld m s.context (cursor_of s) → chain o (λ e. Some (apply e s).closed) ≡ Some ts → length (fields ts) ≤ length old → write_end o (cursor_of s) (layout old s) ≡ fields ts ++ drop (length (fields ts)) old
-    end_writes None s ts q h c fits = absurd (none_some c)
+    end_writes None s ts q h c fits = cc
     end_writes (Some e) s ts q h c fits =
         let is : (apply e s).closed ≡ ts = inside c in
         let none = end_empty m sound s.context (cursor_of s) e q h in
@@ -131,7 +125,7 @@ module _ (old : List ℕ) where
         lay_effect e s (omega arith) ∙ (λ i. lay old (fields (is i)) (empty i)) ∙ lay_empty old (fields ts)
 
     step_writes : (b : ℕ) (bs : List ℕ) → Writes bs → (o : Option (ℕ × Effect)) (s : State) (ts : List Token) → o ≡ m.step s.context b → OpenHeld m s.context (cursor_of s) → chain (chain (chain o (λ r. Some (enter r.0 (apply r.1 s)))) (read_bytes m bs)) (read_end m) ≡ Some ts → length (fields ts) ≤ length old → write_step o (cursor_of s) (layout old s) (written m bs) ≡ fields ts ++ drop (length (fields ts)) old
-    step_writes b bs recur None s ts q h c fits = absurd (none_some c)
+    step_writes b bs recur None s ts q h c fits = cc
     step_writes b bs recur (Some r) s ts q h c fits =
         let t = enter r.0 (apply r.1 s) in
         let moved = cursor_apply r.1 s in
@@ -157,13 +151,13 @@ module _ (m : Meaning) (bs : List ℕ) (n : ℕ) (few : length bs ≤ 65534) whe
     where
       go : (o : Option (List Token)) → sized o (read_before m bs start) ≡ told {A = ℕ} (Err f) → by_reading o (read_before m bs start) n ≡ Err (refusal_of f)
       go None e = cc
-      go (Some ts) e = absurd (let z : ◌≡◌ {A = ℕ} 0 1 = cc in omega arith)
+      go (Some ts) e = cc
 
   pub listing_unfit : (t : ℕ) → measured m bs 0 origin 0 ≡ Ok t → n < t → listing m bs n ≡ Err (plain 17 t)
   listing_unfit t e lt = listing_short ∙ go (reading m bs) (sym (measures_reading m bs) ∙ ap told e)
     where
       go : (o : Option (List Token)) → sized o (read_before m bs start) ≡ told (Ok t) → by_reading o (read_before m bs start) n ≡ Err (plain 17 t)
-      go None e = absurd (let z : ◌≡◌ {A = ℕ} 0 1 = cc in omega arith)
+      go None e = cc
       go (Some ts) e =
           let same : length (fields ts) ≡ t = cc in
           cond-true _ _ _ (lt-ltb n (length (fields ts)) (omega arith)) ∙ ap (λ k. Err (plain 17 k)) same
@@ -179,7 +173,7 @@ module _ (m : Meaning) (bs : List ℕ) (n : ℕ) (few : length bs ≤ 65534) whe
   listing_fits t e le = go (reading m bs) refl (sym (measures_reading m bs) ∙ ap told e)
     where
       go : (o : Option (List Token)) → reading m bs ≡ o → sized o (read_before m bs start) ≡ told (Ok t) → Listed t
-      go None is e = absurd (let z : ◌≡◌ {A = ℕ} 0 1 = cc in omega arith)
+      go None is e = cc
       go (Some ts) is e =
           let same : length (fields ts) ≡ t = cc in
           let fine = cond-false _ (Err (plain 17 (length (fields ts)))) (Ok (fields ts)) (le-ltb n (length (fields ts)) (omega arith)) in
