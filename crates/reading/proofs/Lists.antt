@@ -1,6 +1,7 @@
 -- The two passes come to the listing of the reading. Assumes nothing.
 use Rattle.std.proofs.Common.{◌≡◌, ℕ, suc, ◌+◌, ◌<◌, ◌≤◌, List, [], ◌∷◌, ◌++◌, length, drop, Some, None, Ok, Err, Option, Result, sym, refl, ap, ◌∙◌, subst, append_assoc, append-nil, add-zero, zero-add, arith}
 use Rattle.std.proofs.lemmas.List.{length-append, length_push, nil_from_length}
+use Rattle.std.proofs.lemmas.Bool.Decides.{nat_tests}
 use Rattle.std.proofs.lemmas.Bool.{cond-true, cond-false, lt-ltb, le-ltb}
 use Rattle.host.specs.declared.effect.Effect.{Effect}
 use Rattle.host.specs.declared.effect.Middle.{Middle}
@@ -14,7 +15,7 @@ use Rattle.fault.specs.Refusal.{Refusal, refusal_of, told, plain}
 use Rattle.reading.specs.Listing.{bytes_of, field, fields, by_step, read_before, by_reading, listing}
 use Rattle.reading.specs.Cursors.{close_cursor, keep_cursor, after_cursor, write_close, write_middle, write_effect}
 use Rattle.reading.specs.Passes.{origin, measure_end, measure_step, measured, write_end, write_step, written}
-use Rattle.reading.proofs.Reach.{reach, OpenHeld, close_reach, keep_reach, within, open_more, end_empty}
+use Rattle.reading.proofs.Reach.{reach, OpenHeld, close_reach, keep_reach, after_reach, open_more, end_empty}
 use Rattle.reading.proofs.Layouts.{lay, lay_empty, lay_head, lay_byte}
 
 fields_append : (ts us : List Token) → fields (ts ++ us) ≡ fields ts ++ fields us
@@ -57,20 +58,16 @@ sized None p = Err (plain 19 p)
 sized (Some ts) p = Ok (length (fields ts))
 
 module _ (m : Meaning) where
-  end_is : (o : Option Effect) (s : State) (p : ℕ) → told (measure_end o (cursor_of s) p) ≡ sized (chain o (λ e. Some (apply e s).closed)) (p + 0)
-  end_is None s p = simp add-zero
-  end_is (Some e) s p = let same = cursor_apply e s in cc
-
-  step_is : (bs : List ℕ) → ((s : State) (p : ℕ) → told (measured m bs s.context (cursor_of s) p) ≡ sized (chain (read_bytes m bs s) (read_end m)) (p + read_before m bs s)) → (o : Option (ℕ × Effect)) (s : State) (p : ℕ) → told (measure_step o (cursor_of s) p (measured m bs)) ≡ sized (chain (chain (chain o (λ r. Some (enter r.0 (apply r.1 s)))) (read_bytes m bs)) (read_end m)) (p + by_step (chain o (λ r. Some (enter r.0 (apply r.1 s)))) (read_before m bs))
-  step_is bs recur None s p = simp add-zero
-  step_is bs recur (Some r) s p =
-      let t = enter r.0 (apply r.1 s) in
-      let place : p + 1 + read_before m bs t ≡ p + suc (read_before m bs t) = omega arith in
-      rw (← cursor_apply r.1 s, ← place) (recur t (p + 1))
-
-  pub measure_is : (bs : List ℕ) (s : State) (p : ℕ) → told (measured m bs s.context (cursor_of s) p) ≡ sized (chain (read_bytes m bs s) (read_end m)) (p + read_before m bs s)
-  measure_is [] s p = end_is (m.end s.context) s p
-  measure_is (b ∷ bs) s p = step_is bs (measure_is bs) (m.step s.context b) s p
+  measure_is : (bs : List ℕ) (s : State) (p : ℕ) → told (measured m bs s.context (cursor_of s) p) ≡ sized (chain (read_bytes m bs s) (read_end m)) (p + read_before m bs s)
+  measure_is [] s p = grind (arith, cursor_apply)
+  measure_is (b ∷ bs) s p = go (measure_is bs) (m.step s.context b)
+    where
+      go : ((s : State) (p : ℕ) → told (measured m bs s.context (cursor_of s) p) ≡ sized (chain (read_bytes m bs s) (read_end m)) (p + read_before m bs s)) → (o : Option (ℕ × Effect)) → let t = chain o (λ r. Some (enter r.0 (apply r.1 s))) in told (measure_step o (cursor_of s) p (measured m bs)) ≡ sized (chain (chain t (read_bytes m bs)) (read_end m)) (p + by_step t (read_before m bs))
+      go recur None = simp add-zero
+      go recur (Some r) =
+          let t = enter r.0 (apply r.1 s) in
+          let place : p + 1 + read_before m bs t ≡ p + suc (read_before m bs t) = omega arith in
+          rw (← cursor_apply r.1 s, ← place) (recur t (p + 1))
 
   pub measures_reading : (bs : List ℕ) → told (measured m bs 0 origin 0) ≡ sized (reading m bs) (read_before m bs start)
   measures_reading bs = let e = measure_is bs start 0 in simp zero-add at e
@@ -103,78 +100,60 @@ module _ (old : List ℕ) where
       let c = lay_close e.last two (subst (λ q. reach (close_cursor e.last q) ≤ length old) (sym middle) fits) in
       (λ i. write_close e.last (sym middle i) (write_middle e.middle (sym first i) (a i))) ∙ ap (write_close e.last (cursor_of two)) b ∙ c
 
-  told_ok : (r : Result ℕ Fault) (t : ℕ) → told r ≡ Ok t → r ≡ Ok t
-  told_ok (Ok x) t e = cc
-  told_ok (Err f) t e = cc
-
   module _ (m : Meaning) (sound : Sound m) where
-    measured_ok : (bs : List ℕ) (s : State) (p : ℕ) (ts : List Token) → chain (read_bytes m bs s) (read_end m) ≡ Some ts → measured m bs s.context (cursor_of s) p ≡ Ok (length (fields ts))
-    measured_ok bs s p ts e = told_ok _ _ (measure_is m bs s p ∙ ap (λ o. sized o (p + read_before m bs s)) e)
+    -- a text that is read on to these tokens: what is written so far lies in their fields, and the rest comes to them
+    record Writes (bs : List ℕ) (s : State) (ts : List Token) : Type 0 where
+      within : reach (cursor_of s) ≤ length (fields ts)
+      comes : length (fields ts) ≤ length old → written m bs s.context (cursor_of s) (layout old s) ≡ fields ts ++ drop (length (fields ts)) old
 
-    abbrev Writes : List ℕ → Type 0
-    Writes bs = (s : State) (ts : List Token) → OpenHeld m s.context (cursor_of s) → chain (read_bytes m bs s) (read_end m) ≡ Some ts → length (fields ts) ≤ length old → written m bs s.context (cursor_of s) (layout old s) ≡ fields ts ++ drop (length (fields ts)) old
-
-    end_writes : (o : Option Effect) (s : State) (ts : List Token) → o ≡ m.end s.context → OpenHeld m s.context (cursor_of s) → chain o (λ e. Some (apply e s).closed) ≡ Some ts → length (fields ts) ≤ length old → write_end o (cursor_of s) (layout old s) ≡ fields ts ++ drop (length (fields ts)) old
-    end_writes None s ts q h c fits = cc
-    end_writes (Some e) s ts q h c fits =
-        let is : (apply e s).closed ≡ ts = inside c in
-        let none = end_empty m sound s.context (cursor_of s) e q h in
-        let at : length (fields (apply e s).closed) ≡ (after_cursor e (cursor_of s)).at = ap (λ k. k.at) (cursor_apply e s) in
-        let same : length (fields (apply e s).closed) ≡ length (fields ts) = ap (λ l. length (fields l)) is in
-        let empty : holding (apply e s) ≡ [] = nil_from_length (holding (apply e s)) (ap (λ k. k.held) (cursor_apply e s) ∙ none) in
-        lay_effect e s (omega arith) ∙ (λ i. lay old (fields (is i)) (empty i)) ∙ lay_empty old (fields ts)
-
-    step_writes : (b : ℕ) (bs : List ℕ) → Writes bs → (o : Option (ℕ × Effect)) (s : State) (ts : List Token) → o ≡ m.step s.context b → OpenHeld m s.context (cursor_of s) → chain (chain (chain o (λ r. Some (enter r.0 (apply r.1 s)))) (read_bytes m bs)) (read_end m) ≡ Some ts → length (fields ts) ≤ length old → write_step o (cursor_of s) (layout old s) (written m bs) ≡ fields ts ++ drop (length (fields ts)) old
-    step_writes b bs recur None s ts q h c fits = cc
-    step_writes b bs recur (Some r) s ts q h c fits =
-        let t = enter r.0 (apply r.1 s) in
-        let moved = cursor_apply r.1 s in
-        let still : OpenHeld m r.0 (cursor_of t) = subst (OpenHeld m r.0) (sym moved) (open_more m sound s.context b (cursor_of s) r q h) in
-        let reaches : reach (cursor_of t) ≤ length (fields ts) = within m sound bs r.0 (cursor_of t) 0 (length (fields ts)) still (measured_ok bs t 0 ts c) in
-        let room : reach (after_cursor r.1 (cursor_of s)) ≤ length old = subst (λ k. reach k ≤ length old) moved (omega arith) in
-        (λ i. written m bs r.0 (sym moved i) (lay_effect r.1 s room i)) ∙ recur t ts still c fits
-
-    writes : (bs : List ℕ) → Writes bs
-    writes [] s ts h c fits = end_writes (m.end s.context) s ts refl h c fits
-    writes (b ∷ bs) s ts h c fits = step_writes b bs (writes bs) (m.step s.context b) s ts refl h c fits
+    writes : (bs : List ℕ) (s : State) (ts : List Token) → OpenHeld m s.context (cursor_of s) → chain (read_bytes m bs s) (read_end m) ≡ Some ts → Writes bs s ts
+    writes [] s ts h c = go (m.end s.context) refl c
+      where
+        go : (o : Option Effect) → o ≡ m.end s.context → chain o (λ e. Some (apply e s).closed) ≡ Some ts → Writes [] s ts
+        go None q c = cc
+        go (Some e) q c =
+            let up = after_reach e (cursor_of s) in
+            let none = end_empty m sound s.context (cursor_of s) e q h in
+            let moved = cursor_apply e s in
+            let is : (apply e s).closed ≡ ts = inside c in
+            let long : (after_cursor e (cursor_of s)).at ≡ length (fields ts) = cc in
+            let empty : holding (apply e s) ≡ [] = nil_from_length (holding (apply e s)) (cc) in
+            record { within = omega arith; comes = λ fits. rw (← q, lay_effect e s (omega arith), is, empty, lay_empty old (fields ts)) }
+    writes (b ∷ bs) s ts h c = go (writes bs) (m.step s.context b) refl c
+      where
+        go : ((s : State) (ts : List Token) → OpenHeld m s.context (cursor_of s) → chain (read_bytes m bs s) (read_end m) ≡ Some ts → Writes bs s ts) → (o : Option (ℕ × Effect)) → o ≡ m.step s.context b → chain (chain (chain o (λ r. Some (enter r.0 (apply r.1 s)))) (read_bytes m bs)) (read_end m) ≡ Some ts → Writes (b ∷ bs) s ts
+        go recur None q c = cc
+        go recur (Some r) q c =
+            let up = after_reach r.1 (cursor_of s) in
+            let moved = cursor_apply r.1 s in
+            let rest = recur (enter r.0 (apply r.1 s)) ts (subst (OpenHeld m r.0) (sym moved) (open_more m sound s.context b (cursor_of s) r q h)) c in
+            let within : reach (after_cursor r.1 (cursor_of s)) ≤ length (fields ts) = subst (λ k. reach k ≤ length (fields ts)) moved rest.within in
+            record { within = omega arith; comes = λ fits. rw (← q, ← moved, lay_effect r.1 s (omega arith)) (rest.comes fits) }
 
     pub writes_reading : (bs : List ℕ) (ts : List Token) → reading m bs ≡ Some ts → length (fields ts) ≤ length old → written m bs 0 origin old ≡ fields ts ++ drop (length (fields ts)) old
-    writes_reading bs ts e fits = ap (written m bs 0 origin) (sym (lay_empty old [])) ∙ writes bs start ts (λ lt. absurd (omega arith)) e fits
+    writes_reading bs ts e fits = ap (written m bs 0 origin) (sym (lay_empty old [])) ∙ (writes bs start ts (λ lt. absurd (omega arith)) e).comes fits
 
 -- what the first pass tells of the listing of a text that is not too long
-module _ (m : Meaning) (bs : List ℕ) (n : ℕ) (few : length bs ≤ 65534) where
-  listing_short : listing m bs n ≡ by_reading (reading m bs) (read_before m bs start) n
-  listing_short = cond-false _ _ _ (le-ltb 65534 (length bs) few)
+module _ (m : Meaning) (text out : List ℕ) (few : length text ≤ 65534) where
+  pub listing_refused : (f : Fault) → measured m text 0 origin 0 ≡ Err f → listing m text (length out) ≡ Err (refusal_of f)
+  listing_refused f e = let r = measures_reading m text in grind (arith, nat_tests)
 
-  pub listing_refused : (f : Fault) → measured m bs 0 origin 0 ≡ Err f → listing m bs n ≡ Err (refusal_of f)
-  listing_refused f e = listing_short ∙ go (reading m bs) (sym (measures_reading m bs) ∙ ap told e)
-    where
-      go : (o : Option (List Token)) → sized o (read_before m bs start) ≡ told {A = ℕ} (Err f) → by_reading o (read_before m bs start) n ≡ Err (refusal_of f)
-      go None e = cc
-      go (Some ts) e = cc
-
-  pub listing_unfit : (t : ℕ) → measured m bs 0 origin 0 ≡ Ok t → n < t → listing m bs n ≡ Err (plain 17 t)
-  listing_unfit t e lt = listing_short ∙ go (reading m bs) (sym (measures_reading m bs) ∙ ap told e)
-    where
-      go : (o : Option (List Token)) → sized o (read_before m bs start) ≡ told (Ok t) → by_reading o (read_before m bs start) n ≡ Err (plain 17 t)
-      go None e = cc
-      go (Some ts) e =
-          let same : length (fields ts) ≡ t = cc in
-          cond-true _ _ _ (lt-ltb n (length (fields ts)) (omega arith)) ∙ ap (λ k. Err (plain 17 k)) same
+  pub listing_unfit : (needed : ℕ) → measured m text 0 origin 0 ≡ Ok needed → length out < needed → listing m text (length out) ≡ Err (plain 17 needed)
+  listing_unfit needed e lt = let r = measures_reading m text in grind (arith, nat_tests)
 
   -- the fields of the tokens that are read, where there is room for them
-  pub record Listed (t : ℕ) : Type 0 where
+  pub record Listed (needed : ℕ) : Type 0 where
     pub tokens : List Token
-    pub read : reading m bs ≡ Some tokens
-    pub listed : listing m bs n ≡ Ok (fields tokens)
-    pub long : length (fields tokens) ≡ t
+    pub listed : listing m text (length out) ≡ Ok (fields tokens)
+    pub long : length (fields tokens) ≡ needed
+    pub comes : written m text 0 origin out ≡ fields tokens ++ drop (length (fields tokens)) out
 
-  pub listing_fits : (t : ℕ) → measured m bs 0 origin 0 ≡ Ok t → t ≤ n → Listed t
-  listing_fits t e le = go (reading m bs) refl (sym (measures_reading m bs) ∙ ap told e)
+  pub listing_fits : Sound m → (needed : ℕ) → measured m text 0 origin 0 ≡ Ok needed → needed ≤ length out → Listed needed
+  listing_fits sound needed e le = go (reading m text) refl
     where
-      go : (o : Option (List Token)) → reading m bs ≡ o → sized o (read_before m bs start) ≡ told (Ok t) → Listed t
-      go None is e = cc
-      go (Some ts) is e =
-          let same : length (fields ts) ≡ t = cc in
-          let fine = cond-false _ (Err (plain 17 (length (fields ts)))) (Ok (fields ts)) (le-ltb n (length (fields ts)) (omega arith)) in
-          record { tokens = ts; read = is; listed = listing_short ∙ ap (λ o. by_reading o (read_before m bs start) n) is ∙ fine; long = same }
+      go : (o : Option (List Token)) → reading m text ≡ o → Listed needed
+      go None is = let r = measures_reading m text in cc
+      go (Some ts) is =
+          let r = measures_reading m text in
+          let long : length (fields ts) ≡ needed = cc in
+          record { tokens = ts; listed = grind (arith, nat_tests); long = long; comes = writes_reading out m sound text ts is (omega arith) }

@@ -24,7 +24,7 @@ keep_reach Nothing k = omega arith
 keep_reach Open k = omega arith
 keep_reach (Keep b) k = omega arith
 
-after_reach : (e : Effect) (k : Cursor) → reach k ≤ reach (after_cursor e k)
+pub after_reach : (e : Effect) (k : Cursor) → reach k ≤ reach (after_cursor e k)
 after_reach e k = grind (arith, close_reach, keep_reach)
 
 -- a token that holds bytes is open
@@ -53,22 +53,3 @@ module _ (m : Meaning) (sound : Sound m) where
       let shut = holds (λ e. open_after e (m.is_open c) ≡ false) (sym q) (sound.end_shuts c) in
       let none : 0 < (after_cursor e k).held → ⊥ = λ lt. false≢true (sym shut ∙ after_open e k (m.is_open c) h lt) in
       omega arith
-
-  end_within : (o : Option Effect) (c : ℕ) (k : Cursor) (p total : ℕ) → o ≡ m.end c → OpenHeld m c k → measure_end o k p ≡ Ok total → reach k ≤ total
-  end_within None c k p total q h e = cc
-  end_within (Some x) c k p total q h e =
-      let up = after_reach x k in
-      let empty = end_empty c k x q h in
-      let is : (after_cursor x k).at ≡ total = cc in
-      omega arith
-
-  pub within : (bs : List ℕ) (c : ℕ) (k : Cursor) (p total : ℕ) → OpenHeld m c k → measured m bs c k p ≡ Ok total → reach k ≤ total
-  within [] c k p total h e = end_within (m.end c) c k p total refl h e
-  within (b ∷ bs) c k p total h e = go (within bs) (m.step c b) refl e
-    where
-      go : ((c : ℕ) (k : Cursor) (p total : ℕ) → OpenHeld m c k → measured m bs c k p ≡ Ok total → reach k ≤ total) → (o : Option (ℕ × Effect)) → o ≡ m.step c b → measure_step o k p (measured m bs) ≡ Ok total → reach k ≤ total
-      go recur None q e = cc
-      go recur (Some s) q e =
-          let up = after_reach s.1 k in
-          let rest = recur s.0 (after_cursor s.1 k) (p + 1) total (open_more c b k s q h) e in
-          omega arith
