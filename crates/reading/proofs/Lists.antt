@@ -87,18 +87,7 @@ module _ (old : List ℕ) where
   lay_middle (Keep b) s fits = rw (bytes_append (opened s.current) (byte b ∷ [])) (lay_byte old (fields s.closed) (holding s) b (omega arith))
 
   lay_effect : (e : Effect) (s : State) → reach (after_cursor e (cursor_of s)) ≤ length old → write_effect e (cursor_of s) (layout old s) ≡ layout old (apply e s)
-  lay_effect e s fits =
-      let k = cursor_of s in
-      let one = close e.first s in
-      let two = do_middle e.middle one in
-      let first = cursor_close e.first s in
-      let middle : cursor_of two ≡ keep_cursor e.middle (close_cursor e.first k) = cursor_middle e.middle one ∙ ap (keep_cursor e.middle) first in
-      let up_middle = keep_reach e.middle (close_cursor e.first k) in
-      let up_last = close_reach e.last (keep_cursor e.middle (close_cursor e.first k)) in
-      let a = lay_close e.first s (omega arith) in
-      let b = lay_middle e.middle one (subst (λ q. reach (keep_cursor e.middle q) ≤ length old) (sym first) (omega arith)) in
-      let c = lay_close e.last two (subst (λ q. reach (close_cursor e.last q) ≤ length old) (sym middle) fits) in
-      (λ i. write_close e.last (sym middle i) (write_middle e.middle (sym first i) (a i))) ∙ ap (write_close e.last (cursor_of two)) b ∙ c
+  lay_effect e s fits = grind (arith, lay_close, lay_middle, cursor_close, cursor_middle, close_reach, keep_reach)
 
   module _ (m : Meaning) (sound : Sound m) where
     -- a text that is read on to these tokens: what is written so far lies in their fields, and the rest comes to them
