@@ -1,6 +1,7 @@
 -- The two passes come to the listing of the reading. Assumes nothing.
 use Rattle.std.proofs.Common.{◌≡◌, ℕ, suc, ◌+◌, ◌<◌, ◌≤◌, List, [], ◌∷◌, ◌++◌, length, drop, Some, None, Ok, Err, Option, Result, sym, refl, ap, ◌∙◌, subst, append_assoc, append-nil, add-zero, zero-add, arith}
 use Rattle.std.proofs.lemmas.List.{length-append, length_push, nil_from_length}
+use Rattle.std.proofs.lemmas.Bool.Decides.{nat_tests}
 use Rattle.std.proofs.lemmas.Bool.{cond-true, cond-false, lt-ltb, le-ltb}
 use Rattle.host.specs.declared.effect.Effect.{Effect}
 use Rattle.host.specs.declared.effect.Middle.{Middle}
@@ -11,19 +12,19 @@ use Rattle.host.proofs.Chains.{inside, none_some}
 use Rattle.fault.specs.declared.fault.Fault.{Fault}
 use Rattle.reading.specs.declared.cursor.Cursor.{Cursor}
 use Rattle.fault.specs.Refusal.{Refusal, refusal_of, told, plain}
-use Rattle.reading.specs.Listing.{bytes_of, field, fields, by_step, read_before, by_reading, listing, answer_of, output}
-use Rattle.reading.specs.Cursors.{close_cursor, keep_cursor, after_cursor, reach, write_close, write_middle, write_effect}
+use Rattle.reading.specs.Listing.{bytes_of, field, fields, by_step, read_before, by_reading, listing}
+use Rattle.reading.specs.Cursors.{close_cursor, keep_cursor, after_cursor, write_close, write_middle, write_effect}
 use Rattle.reading.specs.Passes.{origin, measure_end, measure_step, measured, write_end, write_step, written}
-use Rattle.reading.proofs.Turns.{OpenHeld, close_reach, keep_reach, within, open_more, end_empty}
+use Rattle.reading.proofs.Reach.{reach, OpenHeld, close_reach, keep_reach, after_reach, open_more, end_empty}
 use Rattle.reading.proofs.Layouts.{lay, lay_empty, lay_head, lay_byte}
 
 fields_append : (ts us : List Token) → fields (ts ++ us) ≡ fields ts ++ fields us
 fields_append [] us = refl
-fields_append (t ∷ ts) us = ap (λ l. field t.kind (bytes_of t.value) ++ l) (fields_append ts us) ∙ sym (append_assoc (field t.kind (bytes_of t.value)) (fields ts) (fields us))
+fields_append (t ∷ ts) us = simp (fields_append ts us, append_assoc)
 
 pub bytes_append : (xs ys : List Symbol) → bytes_of (xs ++ ys) ≡ bytes_of xs ++ bytes_of ys
 bytes_append [] ys = refl
-bytes_append (byte b ∷ xs) ys = ap (λ l. b ∷ l) (bytes_append xs ys)
+bytes_append (byte b ∷ xs) ys = rw (bytes_append xs ys)
 bytes_append (mark k ∷ xs) ys = bytes_append xs ys
 
 -- the bytes of the open token, and the cursor of a state
@@ -34,28 +35,22 @@ abbrev pub cursor_of : State → Cursor
 cursor_of s = record { at = length (fields s.closed); held = length (holding s) }
 
 fields_close : (k : ℕ) (s : State) → fields (close (Some k) s).closed ≡ fields s.closed ++ field k (holding s)
-fields_close k s = fields_append s.closed (record { kind = k; value = opened s.current } ∷ []) ∙ ap (λ l. fields s.closed ++ l) (append-nil (field k (holding s)))
-
-hold_open : (s : State) → holding (add [] s) ≡ holding s
-hold_open s = ap bytes_of (append-nil (opened s.current))
-
-hold_byte : (b : ℕ) (s : State) → holding (add (byte b ∷ []) s) ≡ holding s ++ b ∷ []
-hold_byte b s = bytes_append (opened s.current) (byte b ∷ [])
+fields_close k s = simp (fields_append, append-nil)
 
 -- marks follow states
 cursor_close : (o : Option ℕ) (s : State) → cursor_of (close o s) ≡ close_cursor o (cursor_of s)
 cursor_close None s = refl
 cursor_close (Some k) s =
-    let at : length (fields (close (Some k) s).closed) ≡ length (fields s.closed) + (3 + length (holding s)) = ap length (fields_close k s) ∙ length-append (fields s.closed) (field k (holding s)) ∙ ap (λ j. length (fields s.closed) + j) (omega arith) in
-    λ i. record { at = at i; held = 0 }
+    let at : length (fields (close (Some k) s).closed) ≡ length (fields s.closed) + (3 + length (holding s)) = simp (fields_close, length-append) (omega arith) in
+    cc
 
 cursor_middle : (d : Middle) (s : State) → cursor_of (do_middle d s) ≡ keep_cursor d (cursor_of s)
 cursor_middle Nothing s = refl
-cursor_middle Open s = λ i. record { at = length (fields s.closed); held = length (hold_open s i) }
-cursor_middle (Keep b) s = let held = ap length (hold_byte b s) ∙ length_push (holding s) b in λ i. record { at = length (fields s.closed); held = held i }
+cursor_middle Open s = simp append-nil
+cursor_middle (Keep b) s = simp (bytes_append, length_push)
 
 cursor_apply : (e : Effect) (s : State) → cursor_of (apply e s) ≡ after_cursor e (cursor_of s)
-cursor_apply e s = cursor_close e.last (do_middle e.middle (close e.first s)) ∙ ap (close_cursor e.last) (cursor_middle e.middle (close e.first s) ∙ ap (keep_cursor e.middle) (cursor_close e.first s))
+cursor_apply e s = let one = close e.first s in rw (cursor_close e.last (do_middle e.middle one), cursor_middle e.middle one, cursor_close e.first s)
 
 -- the first pass
 abbrev pub sized : Option (List Token) → ℕ → Result ℕ Refusal
@@ -63,23 +58,19 @@ sized None p = Err (plain 19 p)
 sized (Some ts) p = Ok (length (fields ts))
 
 module _ (m : Meaning) where
-  end_is : (o : Option Effect) (s : State) (p : ℕ) → told (measure_end o (cursor_of s) p) ≡ sized (chain o (λ e. Some (apply e s).closed)) (p + 0)
-  end_is None s p = ap (λ j. sized None j) (sym (add-zero p))
-  end_is (Some e) s p = ap (λ k. told (Ok k.at)) (sym (cursor_apply e s))
-
-  step_is : (bs : List ℕ) → ((s : State) (p : ℕ) → told (measured m bs s.context (cursor_of s) p) ≡ sized (chain (read_bytes m bs s) (read_end m)) (p + read_before m bs s)) → (o : Option (ℕ × Effect)) (s : State) (p : ℕ) → told (measure_step o (cursor_of s) p (measured m bs)) ≡ sized (chain (chain (chain o (λ r. Some (enter r.0 (apply r.1 s)))) (read_bytes m bs)) (read_end m)) (p + by_step (chain o (λ r. Some (enter r.0 (apply r.1 s)))) (read_before m bs))
-  step_is bs recur None s p = ap (λ j. sized None j) (sym (add-zero p))
-  step_is bs recur (Some r) s p =
-      let t = enter r.0 (apply r.1 s) in
-      let place : p + 1 + read_before m bs t ≡ p + suc (read_before m bs t) = omega arith in
-      ap (λ k. told (measured m bs r.0 k (p + 1))) (sym (cursor_apply r.1 s)) ∙ recur t (p + 1) ∙ ap (λ j. sized (chain (read_bytes m bs t) (read_end m)) j) place
-
-  pub measure_is : (bs : List ℕ) (s : State) (p : ℕ) → told (measured m bs s.context (cursor_of s) p) ≡ sized (chain (read_bytes m bs s) (read_end m)) (p + read_before m bs s)
-  measure_is [] s p = end_is (m.end s.context) s p
-  measure_is (b ∷ bs) s p = step_is bs (measure_is bs) (m.step s.context b) s p
+  measure_is : (bs : List ℕ) (s : State) (p : ℕ) → told (measured m bs s.context (cursor_of s) p) ≡ sized (chain (read_bytes m bs s) (read_end m)) (p + read_before m bs s)
+  measure_is [] s p = grind (arith, cursor_apply)
+  measure_is (b ∷ bs) s p = go (measure_is bs) (m.step s.context b)
+    where
+      go : ((s : State) (p : ℕ) → told (measured m bs s.context (cursor_of s) p) ≡ sized (chain (read_bytes m bs s) (read_end m)) (p + read_before m bs s)) → (o : Option (ℕ × Effect)) → let t = chain o (λ r. Some (enter r.0 (apply r.1 s))) in told (measure_step o (cursor_of s) p (measured m bs)) ≡ sized (chain (chain t (read_bytes m bs)) (read_end m)) (p + by_step t (read_before m bs))
+      go recur None = simp add-zero
+      go recur (Some r) =
+          let t = enter r.0 (apply r.1 s) in
+          let place : p + 1 + read_before m bs t ≡ p + suc (read_before m bs t) = omega arith in
+          rw (← cursor_apply r.1 s, ← place) (recur t (p + 1))
 
   pub measures_reading : (bs : List ℕ) → told (measured m bs 0 origin 0) ≡ sized (reading m bs) (read_before m bs start)
-  measures_reading bs = measure_is bs start 0 ∙ ap (λ j. sized (reading m bs) j) (zero-add (read_before m bs start))
+  measures_reading bs = let e = measure_is bs start 0 in simp zero-add at e
 
 -- the second pass
 abbrev layout : List ℕ → State → List ℕ
@@ -88,99 +79,70 @@ layout old s = lay old (fields s.closed) (holding s)
 module _ (old : List ℕ) where
   lay_close : (o : Option ℕ) (s : State) → reach (close_cursor o (cursor_of s)) ≤ length old → write_close o (cursor_of s) (layout old s) ≡ layout old (close o s)
   lay_close None s fits = refl
-  lay_close (Some k) s fits = lay_head old (fields s.closed) (holding s) k (omega arith) ∙ ap (λ l. lay old l []) (sym (fields_close k s))
+  lay_close (Some k) s fits = rw (fields_close k s) (lay_head old (fields s.closed) (holding s) k (omega arith))
 
   lay_middle : (d : Middle) (s : State) → reach (keep_cursor d (cursor_of s)) ≤ length old → write_middle d (cursor_of s) (layout old s) ≡ layout old (do_middle d s)
   lay_middle Nothing s fits = refl
-  lay_middle Open s fits = ap (lay old (fields s.closed)) (sym (hold_open s))
-  lay_middle (Keep b) s fits = lay_byte old (fields s.closed) (holding s) b (omega arith) ∙ ap (lay old (fields s.closed)) (sym (hold_byte b s))
+  lay_middle Open s fits = simp append-nil
+  lay_middle (Keep b) s fits = rw (bytes_append (opened s.current) (byte b ∷ [])) (lay_byte old (fields s.closed) (holding s) b (omega arith))
 
   lay_effect : (e : Effect) (s : State) → reach (after_cursor e (cursor_of s)) ≤ length old → write_effect e (cursor_of s) (layout old s) ≡ layout old (apply e s)
-  lay_effect e s fits =
-      let k = cursor_of s in
-      let one = close e.first s in
-      let two = do_middle e.middle one in
-      let first = cursor_close e.first s in
-      let middle : cursor_of two ≡ keep_cursor e.middle (close_cursor e.first k) = cursor_middle e.middle one ∙ ap (keep_cursor e.middle) first in
-      let up_middle = keep_reach e.middle (close_cursor e.first k) in
-      let up_last = close_reach e.last (keep_cursor e.middle (close_cursor e.first k)) in
-      let a = lay_close e.first s (omega arith) in
-      let b = lay_middle e.middle one (subst (λ q. reach (keep_cursor e.middle q) ≤ length old) (sym first) (omega arith)) in
-      let c = lay_close e.last two (subst (λ q. reach (close_cursor e.last q) ≤ length old) (sym middle) fits) in
-      (λ i. write_close e.last (sym middle i) (write_middle e.middle (sym first i) (a i))) ∙ ap (write_close e.last (cursor_of two)) b ∙ c
-
-  told_ok : (r : Result ℕ Fault) (t : ℕ) → told r ≡ Ok t → r ≡ Ok t
-  told_ok (Ok x) t e = let same : x ≡ t = cc in ap Ok same
-  told_ok (Err f) t e = absurd (let z : ◌≡◌ {A = ℕ} 0 1 = cc in omega arith)
+  lay_effect e s fits = grind (arith, lay_close, lay_middle, cursor_close, cursor_middle, close_reach, keep_reach)
 
   module _ (m : Meaning) (sound : Sound m) where
-    measured_ok : (bs : List ℕ) (s : State) (p : ℕ) (ts : List Token) → chain (read_bytes m bs s) (read_end m) ≡ Some ts → measured m bs s.context (cursor_of s) p ≡ Ok (length (fields ts))
-    measured_ok bs s p ts e = told_ok _ _ (measure_is m bs s p ∙ ap (λ o. sized o (p + read_before m bs s)) e)
+    -- a text that is read on to these tokens: what is written so far lies in their fields, and the rest comes to them
+    record Writes (bs : List ℕ) (s : State) (ts : List Token) : Type 0 where
+      within : reach (cursor_of s) ≤ length (fields ts)
+      comes : length (fields ts) ≤ length old → written m bs s.context (cursor_of s) (layout old s) ≡ fields ts ++ drop (length (fields ts)) old
 
-    abbrev Writes : List ℕ → Type 0
-    Writes bs = (s : State) (ts : List Token) → OpenHeld m s.context (cursor_of s) → chain (read_bytes m bs s) (read_end m) ≡ Some ts → length (fields ts) ≤ length old → written m bs s.context (cursor_of s) (layout old s) ≡ fields ts ++ drop (length (fields ts)) old
-
-    end_writes : (o : Option Effect) (s : State) (ts : List Token) → o ≡ m.end s.context → OpenHeld m s.context (cursor_of s) → chain o (λ e. Some (apply e s).closed) ≡ Some ts → length (fields ts) ≤ length old → write_end o (cursor_of s) (layout old s) ≡ fields ts ++ drop (length (fields ts)) old
-    end_writes None s ts q h c fits = absurd (none_some c)
-    end_writes (Some e) s ts q h c fits =
-        let is : (apply e s).closed ≡ ts = inside c in
-        let none = end_empty m sound s.context (cursor_of s) e q h in
-        let at : length (fields (apply e s).closed) ≡ (after_cursor e (cursor_of s)).at = ap (λ k. k.at) (cursor_apply e s) in
-        let same : length (fields (apply e s).closed) ≡ length (fields ts) = ap (λ l. length (fields l)) is in
-        let empty : holding (apply e s) ≡ [] = nil_from_length (holding (apply e s)) (ap (λ k. k.held) (cursor_apply e s) ∙ none) in
-        lay_effect e s (omega arith) ∙ (λ i. lay old (fields (is i)) (empty i)) ∙ lay_empty old (fields ts)
-
-    step_writes : (b : ℕ) (bs : List ℕ) → Writes bs → (o : Option (ℕ × Effect)) (s : State) (ts : List Token) → o ≡ m.step s.context b → OpenHeld m s.context (cursor_of s) → chain (chain (chain o (λ r. Some (enter r.0 (apply r.1 s)))) (read_bytes m bs)) (read_end m) ≡ Some ts → length (fields ts) ≤ length old → write_step o (cursor_of s) (layout old s) (written m bs) ≡ fields ts ++ drop (length (fields ts)) old
-    step_writes b bs recur None s ts q h c fits = absurd (none_some c)
-    step_writes b bs recur (Some r) s ts q h c fits =
-        let t = enter r.0 (apply r.1 s) in
-        let moved = cursor_apply r.1 s in
-        let still : OpenHeld m r.0 (cursor_of t) = subst (OpenHeld m r.0) (sym moved) (open_more m sound s.context b (cursor_of s) r q h) in
-        let reaches : reach (cursor_of t) ≤ length (fields ts) = within m sound bs r.0 (cursor_of t) 0 (length (fields ts)) still (measured_ok bs t 0 ts c) in
-        let room : reach (after_cursor r.1 (cursor_of s)) ≤ length old = subst (λ k. reach k ≤ length old) moved (omega arith) in
-        (λ i. written m bs r.0 (sym moved i) (lay_effect r.1 s room i)) ∙ recur t ts still c fits
-
-    writes : (bs : List ℕ) → Writes bs
-    writes [] s ts h c fits = end_writes (m.end s.context) s ts refl h c fits
-    writes (b ∷ bs) s ts h c fits = step_writes b bs (writes bs) (m.step s.context b) s ts refl h c fits
+    writes : (bs : List ℕ) (s : State) (ts : List Token) → OpenHeld m s.context (cursor_of s) → chain (read_bytes m bs s) (read_end m) ≡ Some ts → Writes bs s ts
+    writes [] s ts h c = go (m.end s.context) refl c
+      where
+        go : (o : Option Effect) → o ≡ m.end s.context → chain o (λ e. Some (apply e s).closed) ≡ Some ts → Writes [] s ts
+        go None q c = cc
+        go (Some e) q c =
+            let up = after_reach e (cursor_of s) in
+            let none = end_empty m sound s.context (cursor_of s) e q h in
+            let moved = cursor_apply e s in
+            let is : (apply e s).closed ≡ ts = inside c in
+            let long : (after_cursor e (cursor_of s)).at ≡ length (fields ts) = cc in
+            let empty : holding (apply e s) ≡ [] = nil_from_length (holding (apply e s)) (cc) in
+            record { within = omega arith; comes = λ fits. rw (← q, lay_effect e s (omega arith), is, empty, lay_empty old (fields ts)) }
+    writes (b ∷ bs) s ts h c = go (writes bs) (m.step s.context b) refl c
+      where
+        go : ((s : State) (ts : List Token) → OpenHeld m s.context (cursor_of s) → chain (read_bytes m bs s) (read_end m) ≡ Some ts → Writes bs s ts) → (o : Option (ℕ × Effect)) → o ≡ m.step s.context b → chain (chain (chain o (λ r. Some (enter r.0 (apply r.1 s)))) (read_bytes m bs)) (read_end m) ≡ Some ts → Writes (b ∷ bs) s ts
+        go recur None q c = cc
+        go recur (Some r) q c =
+            let up = after_reach r.1 (cursor_of s) in
+            let moved = cursor_apply r.1 s in
+            let rest = recur (enter r.0 (apply r.1 s)) ts (subst (OpenHeld m r.0) (sym moved) (open_more m sound s.context b (cursor_of s) r q h)) c in
+            let within : reach (after_cursor r.1 (cursor_of s)) ≤ length (fields ts) = subst (λ k. reach k ≤ length (fields ts)) moved rest.within in
+            record { within = omega arith; comes = λ fits. rw (← q, ← moved, lay_effect r.1 s (omega arith)) (rest.comes fits) }
 
     pub writes_reading : (bs : List ℕ) (ts : List Token) → reading m bs ≡ Some ts → length (fields ts) ≤ length old → written m bs 0 origin old ≡ fields ts ++ drop (length (fields ts)) old
-    writes_reading bs ts e fits = ap (written m bs 0 origin) (sym (lay_empty old [])) ∙ writes bs start ts (λ lt. absurd (omega arith)) e fits
+    writes_reading bs ts e fits = ap (written m bs 0 origin) (sym (lay_empty old [])) ∙ (writes bs start ts (λ lt. absurd (omega arith)) e).comes fits
 
--- what is answered and written, at each way out
-pub record Ends (o : Option (List Token)) (p : ℕ) (out : List ℕ) (r : Result ℕ Refusal) (after : List ℕ) : Type 0 where
-  pub answers : r ≡ answer_of (by_reading o p (length out))
-  pub holds_out : after ≡ output (by_reading o p (length out)) out
+-- what the first pass tells of the listing of a text that is not too long
+module _ (m : Meaning) (text out : List ℕ) (few : length text ≤ 65534) where
+  pub listing_refused : (f : Fault) → measured m text 0 origin 0 ≡ Err f → listing m text (length out) ≡ Err (refusal_of f)
+  listing_refused f e = let r = measures_reading m text in grind (arith, nat_tests)
 
-pub ends_refused : (o : Option (List Token)) (p : ℕ) (out : List ℕ) (f : Fault) → told {A = ℕ} (Err f) ≡ sized o p → Ends o p out (Err (refusal_of f)) out
-ends_refused None p out f e = record { answers = e; holds_out = refl }
-ends_refused (Some ts) p out f e = absurd (let z : ◌≡◌ {A = ℕ} 0 1 = cc in omega arith)
+  pub listing_unfit : (needed : ℕ) → measured m text 0 origin 0 ≡ Ok needed → length out < needed → listing m text (length out) ≡ Err (plain 17 needed)
+  listing_unfit needed e lt = let r = measures_reading m text in grind (arith, nat_tests)
 
-pub ends_short : (o : Option (List Token)) (p : ℕ) (out : List ℕ) (t : ℕ) → Ok t ≡ sized o p → length out < t → Ends o p out (Err (plain 17 t)) out
-ends_short None p out t e lt = absurd (let z : ◌≡◌ {A = ℕ} 0 1 = cc in omega arith)
-ends_short (Some ts) p out t e lt =
-    let same : t ≡ length (fields ts) = cc in
-    let short : by_reading (Some ts) p (length out) ≡ Err (plain 17 (length (fields ts))) = cond-true _ _ _ (lt-ltb (length out) (length (fields ts)) (omega arith)) in
-    let number : ℕ → Result ℕ Refusal = λ n. Err (plain 17 n) in
-    record { answers = ap number same ∙ ap answer_of (sym short); holds_out = ap (λ r. output r out) (sym short) }
+  -- the fields of the tokens that are read, where there is room for them
+  pub record Listed (needed : ℕ) : Type 0 where
+    pub tokens : List Token
+    pub listed : listing m text (length out) ≡ Ok (fields tokens)
+    pub long : length (fields tokens) ≡ needed
+    pub comes : written m text 0 origin out ≡ fields tokens ++ drop (length (fields tokens)) out
 
-pub ends_listed : (o : Option (List Token)) (p : ℕ) (out after : List ℕ) (t : ℕ) → Ok t ≡ sized o p → t ≤ length out → ((ts : List Token) → o ≡ Some ts → length (fields ts) ≤ length out → after ≡ fields ts ++ drop (length (fields ts)) out) → Ends o p out (Ok t) after
-ends_listed None p out after t e le w = absurd (let z : ◌≡◌ {A = ℕ} 0 1 = cc in omega arith)
-ends_listed (Some ts) p out after t e le w =
-    let same : t ≡ length (fields ts) = cc in
-    let fine : by_reading (Some ts) p (length out) ≡ Ok (fields ts) = cond-false _ _ _ (le-ltb (length out) (length (fields ts)) (omega arith)) in
-    let number : ℕ → Result ℕ Refusal = λ n. Ok n in
-    record { answers = ap number same ∙ ap answer_of (sym fine); holds_out = w ts refl (omega arith) ∙ ap (λ r. output r out) (sym fine) }
-
--- so of a text that is not too long
-pub listing_short : (m : Meaning) (bs : List ℕ) (n : ℕ) → length bs ≤ 65534 → listing m bs n ≡ by_reading (reading m bs) (read_before m bs start) n
-listing_short m bs n h = cond-false _ _ _ (le-ltb 65534 (length bs) h)
-
-pub record Lists (m : Meaning) (bs out : List ℕ) (r : Result ℕ Refusal) (after : List ℕ) : Type 0 where
-  pub answers : r ≡ answer_of (listing m bs (length out))
-  pub holds_out : after ≡ output (listing m bs (length out)) out
-
-pub lists : (m : Meaning) (bs out : List ℕ) (r : Result ℕ Refusal) (after : List ℕ) → length bs ≤ 65534 → Ends (reading m bs) (read_before m bs start) out r after → Lists m bs out r after
-lists m bs out r after h e =
-    let same = sym (listing_short m bs (length out) h) in
-    record { answers = e.answers ∙ ap answer_of same; holds_out = e.holds_out ∙ ap (λ l. output l out) same }
+  pub listing_fits : Sound m → (needed : ℕ) → measured m text 0 origin 0 ≡ Ok needed → needed ≤ length out → Listed needed
+  listing_fits sound needed e le = go (reading m text) refl
+    where
+      go : (o : Option (List Token)) → reading m text ≡ o → Listed needed
+      go None is = let r = measures_reading m text in cc
+      go (Some ts) is =
+          let r = measures_reading m text in
+          let long : length (fields ts) ≡ needed = cc in
+          record { tokens = ts; listed = grind (arith, nat_tests); long = long; comes = writes_reading out m sound text ts is (omega arith) }

@@ -7,7 +7,7 @@ use Rattle.reading.specs.Listing.{by_step, read_before, RefusedAt, RefusedRightl
 -- where an answer is made of another, there is none only if there is none to make it of
 none_of : {A B : Type 0} (f : A → B) (o : Option A) → chain o (λ x. Some (f x)) ≡ None → o ≡ None
 none_of f None e = refl
-none_of f (Some x) e = absurd (let z : ◌≡◌ {A = ℕ} 0 1 = cc in omega arith)
+none_of f (Some x) e = cc
 
 refused : (m : Meaning) (bs : List ℕ) (s : State) → chain (read_bytes m bs s) (read_end m) ≡ None → RefusedAt m s bs (read_before m bs s)
 refused m [] s e = record { within = omega arith; reached = s; before = refl; here = none_of (λ x. (apply x s).closed) (m.end s.context) e }

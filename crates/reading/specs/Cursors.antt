@@ -1,5 +1,5 @@
 -- What the two passes do, by marks alone: how far the listing has come, and what is written there. Assumes nothing.
-use Rattle.std.specs.Prelude.{ℕ, ◌+◌, ◌*◌, ◌/◌, ◌%◌, ◌<◌, ◌≤◌, min, List, Some, None, Option, slice_set}
+use Rattle.std.specs.Prelude.{ℕ, ◌+◌, ◌/◌, ◌%◌, List, Some, None, Option, slice_set}
 use Rattle.host.specs.declared.effect.Effect.{Effect}
 use Rattle.host.specs.declared.effect.Middle.{Middle}
 use Rattle.host.specs.declared.effect.Middle.TheVariants.{Nothing, Open, Keep}
@@ -16,19 +16,6 @@ keep_cursor (Keep b) k = record { at = k.at; held = k.held + 1 }
 
 abbrev pub after_cursor : Effect → Cursor → Cursor
 after_cursor e k = close_cursor e.last (keep_cursor e.middle (close_cursor e.first k))
-
--- The place after all that is written at a cursor: an open token with bytes has room for its head before them.
-abbrev pub reach : Cursor → ℕ
-reach k = k.at + (k.held + min (3 * k.held) 3)
-
-abbrev pub CloseFits : Option ℕ → Cursor → ℕ → Type 0
-CloseFits None k n = Unit {0}
-CloseFits (Some kind) k n = k.at + 3 ≤ n
-
-abbrev pub KeepFits : Middle → Cursor → ℕ → Type 0
-KeepFits Nothing k n = Unit {0}
-KeepFits Open k n = Unit {0}
-KeepFits (Keep b) k n = k.at + (3 + k.held) < n
 
 abbrev pub write_close : Option ℕ → Cursor → List ℕ → List ℕ
 write_close None k out = out

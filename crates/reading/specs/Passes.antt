@@ -1,5 +1,5 @@
 -- What each pass over a text does, from a context and a cursor on. Assumes nothing.
-use Rattle.std.specs.Prelude.{ℕ, ◌+◌, ◌≤◌, List, [], ◌∷◌, Some, None, Ok, Err, Option, Result}
+use Rattle.std.specs.Prelude.{ℕ, ◌+◌, List, [], ◌∷◌, Some, None, Ok, Err, Option, Result}
 use Rattle.host.specs.declared.effect.Effect.{Effect}
 use Rattle.host.specs.Meaning.{Meaning}
 use Rattle.fault.specs.declared.fault.Fault.{Fault}
@@ -35,8 +35,3 @@ write_step (Some s) k out more = more s.0 (after_cursor s.1 k) (write_effect s.1
 abbrev pub written : Meaning → List ℕ → ℕ → Cursor → List ℕ → List ℕ
 written m [] c k out = write_end (m.end c) k out
 written m (b ∷ bs) c k out = write_step (m.step c b) k out (written m bs)
-
--- A listing that is measured fits an output of n bytes.
-abbrev pub Fits : Result ℕ Fault → ℕ → Type 0
-Fits (Ok total) n = total ≤ n
-Fits (Err f) n = ⊥
