@@ -7,6 +7,7 @@ use crate::fault::Fault;
 use crate::flaw::Flaw;
 use std::fmt;
 
+#[tactic(auto, unfolding(crate::specs::Words::flaw_words_lem))]
 fn flaw_words(flaw: &Flaw) -> &'static str
     ensures { result.now ≡ flaw_words_lem flaw.now }
 {
@@ -21,6 +22,7 @@ fn flaw_words(flaw: &Flaw) -> &'static str
     }
 }
 
+#[tactic(auto, unfolding(crate::specs::Words::fault_words_lem))]
 fn fault_words(fault: &Fault) -> &'static str
     ensures { result.now ≡ fault_words_lem fault.now }
 {
