@@ -7,37 +7,22 @@ ghost use Rattle.host.specs.Table.{in_class, stepped, spelled_by};
 ghost use Rattle.csv_host.specs.Table.{csv, textdata, inside, separators, field_start, bare, quoted, quote_seen, return_seen, bare_spells, quoted_spells, rows};
 ghost use Rattle.host.proofs.Sound;
 
+mod context;
+mod kind;
 pub mod promise;
 
+use context::Context;
 use host::Host;
 use host::answer::{
     Move, after_closing, ending, hole_around, keeping_to, no_hole, opening_to, passing_to,
     spelled_as, then_closing, unspelled,
 };
 use host::effect::{Effect, Recipe, Refused, Spelling};
+pub use kind::Kind;
 
 // The host of the season table.
 #[derive(Clone, Copy)]
 pub struct Csv;
-
-// The contexts: where a row starts, where another field starts, in a field without quotes, in one with quotes, after a
-// quote in it, and after a carriage return.
-const ROW_START: u8 = 0;
-
-const FIELD_START: u8 = 1;
-
-const BARE: u8 = 2;
-
-const QUOTED: u8 = 3;
-
-const QUOTE_SEEN: u8 = 4;
-
-const RETURN_SEEN: u8 = 5;
-
-// The kinds of tokens. A row is a token without bytes that follows its fields.
-const FIELD: u8 = 1;
-
-const ROW: u8 = 2;
 
 impl Host for Csv {
     ghost meaning = { λ _. csv };
@@ -45,36 +30,42 @@ impl Host for Csv {
     ghost sound = { λ h. Sound.sound rows refl };
 
     fn step(&self, context: u8, byte: u8) -> Result<Move, Refused> {
-        match context {
-            ROW_START | FIELD_START => at_field_start(byte),
-            BARE => in_bare(byte),
-            QUOTED => in_quoted(byte),
-            QUOTE_SEEN => after_quote(byte),
-            RETURN_SEEN => after_return(byte),
-            _ => Err(Refused),
+        match Context::try_from(context)? {
+            Context::RowStart | Context::FieldStart => at_field_start(byte),
+            Context::Bare => in_bare(byte),
+            Context::Quoted => in_quoted(byte),
+            Context::QuoteSeen => after_quote(byte),
+            Context::ReturnSeen => after_return(byte),
         }
     }
 
     fn end(&self, context: u8) -> Result<Effect, Refused> {
-        match context {
-            ROW_START => Ok(ending(None, None)),
-            FIELD_START | BARE | QUOTE_SEEN => Ok(ending(Some(FIELD), Some(ROW))),
+        match Context::try_from(context)? {
+            Context::RowStart => Ok(ending(None, None)),
+            Context::FieldStart | Context::Bare | Context::QuoteSeen => Ok(ending(
+                Some(Kind::Field.into()),
+                Some(Kind::Row.into()),
+            )),
             _ => Err(Refused),
         }
     }
 
     fn recipe(&self, context: u8) -> Recipe {
-        match context {
-            ROW_START | FIELD_START => hole_around(b"\"", QUOTED, b"\""),
-            BARE | QUOTED => hole_around(b"", context, b""),
+        match Context::try_from(context) {
+            Ok(Context::RowStart | Context::FieldStart) => hole_around(
+                b"\"",
+                Context::Quoted.into(),
+                b"\"",
+            ),
+            Ok(Context::Bare | Context::Quoted) => hole_around(b"", context, b""),
             _ => no_hole(),
         }
     }
 
     fn spelling(&self, body: u8, byte: u8) -> Spelling {
-        match body {
-            BARE => bare_spelling(byte),
-            QUOTED => quoted_spelling(byte),
+        match Context::try_from(body) {
+            Ok(Context::Bare) => bare_spelling(byte),
+            Ok(Context::Quoted) => quoted_spelling(byte),
             _ => unspelled(),
         }
     }
@@ -88,22 +79,20 @@ fn is_textdata(b: u8) -> bool
 }
 
 // What stands for itself between quotes.
-fn is_inside(b: u8) -> bool
-    ensures { result ≡ in_class inside b }
+fn is_inside(byte: u8) -> bool
+    ensures { result ≡ in_class inside byte }
 {
-    is_textdata(b) || b == b',' || b == b'\n' || b == b'\r'
+    is_textdata(byte) || matches!(byte, b',' | b'\n' | b'\r')
 }
 
-// Where a field starts it may be empty.
+// Where a field starts it may have quotes, and it may be empty.
 fn at_field_start(byte: u8) -> Result<Move, Refused>
     ensures { answered result ≡ stepped field_start byte }
 {
     if byte == b'"' {
-        Ok(opening_to(QUOTED))
-    } else if is_textdata(byte) {
-        Ok(keeping_to(BARE, byte))
+        Ok(opening_to(Context::Quoted))
     } else {
-        at_separator(byte)
+        in_bare(byte)
     }
 }
 
@@ -112,7 +101,7 @@ fn in_bare(byte: u8) -> Result<Move, Refused>
     ensures { answered result ≡ stepped bare byte }
 {
     if is_textdata(byte) {
-        Ok(keeping_to(BARE, byte))
+        Ok(keeping_to(Context::Bare, byte))
     } else {
         at_separator(byte)
     }
@@ -123,9 +112,9 @@ fn in_quoted(byte: u8) -> Result<Move, Refused>
     ensures { answered result ≡ stepped quoted byte }
 {
     if byte == b'"' {
-        Ok(passing_to(QUOTE_SEEN))
+        Ok(passing_to(Context::QuoteSeen))
     } else if is_inside(byte) {
-        Ok(keeping_to(QUOTED, byte))
+        Ok(keeping_to(Context::Quoted, byte))
     } else {
         Err(Refused)
     }
@@ -136,7 +125,7 @@ fn after_quote(byte: u8) -> Result<Move, Refused>
     ensures { answered result ≡ stepped quote_seen byte }
 {
     if byte == b'"' {
-        Ok(keeping_to(QUOTED, byte))
+        Ok(keeping_to(Context::Quoted, byte))
     } else {
         at_separator(byte)
     }
@@ -147,7 +136,8 @@ fn after_return(byte: u8) -> Result<Move, Refused>
     ensures { answered result ≡ stepped return_seen byte }
 {
     if byte == b'\n' {
-        Ok(after_closing(FIELD, then_closing(passing_to(ROW_START), ROW)))
+        let row_end = then_closing(passing_to(Context::RowStart), Kind::Row);
+        Ok(after_closing(Kind::Field, row_end))
     } else {
         Err(Refused)
     }
@@ -158,8 +148,8 @@ fn at_separator(byte: u8) -> Result<Move, Refused>
     ensures { answered result ≡ stepped separators byte }
 {
     match byte {
-        b',' => Ok(after_closing(FIELD, passing_to(FIELD_START))),
-        b'\r' => Ok(opening_to(RETURN_SEEN)),
+        b',' => Ok(after_closing(Kind::Field, passing_to(Context::FieldStart))),
+        b'\r' => Ok(opening_to(Context::ReturnSeen)),
         _ => Err(Refused),
     }
 }

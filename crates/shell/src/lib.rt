@@ -5,41 +5,25 @@ ghost use Rattle.std.specs.Prelude.{◌≡◌, refl};
 ghost use Rattle.host.specs.Answers.{answered, spelling_of};
 ghost use Rattle.host.specs.Table.{in_class, stepped, spelled_by};
 ghost use Rattle.shell.specs.Table.{shell, blank, operator, escaped, special, gap, in_word, escape, in_single, in_double, escape_in_double, single_spells, double_spells, rows};
+ghost use Rattle.shell.specs.Contexts.{context_number};
 ghost use Rattle.host.proofs.Sound;
 
+mod context;
+mod kind;
 pub mod promise;
 
+use context::Context;
 use host::Host;
 use host::answer::{
-    Move, after_closing, ending, hole_around, keeping_to, no_hole, opening_to, passing_to,
+    Move, closing_first, ending, hole_around, keeping_to, no_hole, opening_to, passing_to,
     spelled_as, then_closing, unspelled,
 };
 use host::effect::{Effect, Recipe, Refused, Spelling};
+pub use kind::Kind;
 
 // The host of the cab computer's command line.
 #[derive(Clone, Copy)]
 pub struct Shell;
-
-// The contexts: between words, in a word, after a backslash in either, between single quotes, between double quotes,
-// and after a backslash there.
-const GAP: u8 = 0;
-
-const IN_WORD: u8 = 1;
-
-const BACKSLASH_IN_GAP: u8 = 2;
-
-const BACKSLASH_IN_WORD: u8 = 3;
-
-const SINGLE_QUOTED: u8 = 4;
-
-const DOUBLE_QUOTED: u8 = 5;
-
-const BACKSLASH_IN_QUOTES: u8 = 6;
-
-// The kinds of tokens.
-const WORD: u8 = 1;
-
-const OPERATOR: u8 = 2;
 
 impl Host for Shell {
     ghost meaning = { λ _. shell };
@@ -47,73 +31,73 @@ impl Host for Shell {
     ghost sound = { λ h. Sound.sound rows refl };
 
     fn step(&self, context: u8, byte: u8) -> Result<Move, Refused> {
-        match context {
-            GAP => at_gap(byte),
-            IN_WORD => at_word(byte),
-            BACKSLASH_IN_GAP => after_backslash(GAP, byte),
-            BACKSLASH_IN_WORD => after_backslash(IN_WORD, byte),
-            SINGLE_QUOTED => at_single_quoted(byte),
-            DOUBLE_QUOTED => at_double_quoted(byte),
-            BACKSLASH_IN_QUOTES => after_quoted_backslash(byte),
-            _ => Err(Refused),
+        match Context::try_from(context)? {
+            Context::Gap => at_gap(byte),
+            Context::InWord => at_word(byte),
+            Context::BackslashInGap => after_backslash(Context::Gap, byte),
+            Context::BackslashInWord => after_backslash(Context::InWord, byte),
+            Context::SingleQuoted => at_single_quoted(byte),
+            Context::DoubleQuoted => at_double_quoted(byte),
+            Context::BackslashInQuotes => after_quoted_backslash(byte),
         }
     }
 
     fn end(&self, context: u8) -> Result<Effect, Refused> {
-        match context {
-            GAP => Ok(ending(None, None)),
-            IN_WORD => Ok(ending(Some(WORD), None)),
+        match Context::try_from(context)? {
+            Context::Gap => Ok(ending(None, None)),
+            Context::InWord => Ok(ending(Some(Kind::Word.into()), None)),
             _ => Err(Refused),
         }
     }
 
     fn recipe(&self, context: u8) -> Recipe {
-        match context {
-            GAP | IN_WORD => hole_around(b"'", SINGLE_QUOTED, b"'"),
-            SINGLE_QUOTED | DOUBLE_QUOTED => hole_around(b"", context, b""),
+        match Context::try_from(context) {
+            Ok(Context::Gap | Context::InWord) => hole_around(
+                b"'",
+                Context::SingleQuoted.into(),
+                b"'",
+            ),
+            Ok(Context::SingleQuoted | Context::DoubleQuoted) => hole_around(b"", context, b""),
             _ => no_hole(),
         }
     }
 
     fn spelling(&self, body: u8, byte: u8) -> Spelling {
-        match body {
-            SINGLE_QUOTED => single_quoted_spelling(byte),
-            DOUBLE_QUOTED => double_quoted_spelling(byte),
+        match Context::try_from(body) {
+            Ok(Context::SingleQuoted) => single_quoted_spelling(byte),
+            Ok(Context::DoubleQuoted) => double_quoted_spelling(byte),
             _ => unspelled(),
         }
     }
 }
 
-fn is_blank(b: u8) -> bool
-    ensures { result ≡ in_class blank b }
+fn is_blank(byte: u8) -> bool
+    ensures { result ≡ in_class blank byte }
 {
-    b == b' ' || b == b'\t'
+    matches!(byte, b' ' | b'\t')
 }
 
-fn is_operator(b: u8) -> bool
-    ensures { result ≡ in_class operator b }
+fn is_operator(byte: u8) -> bool
+    ensures { result ≡ in_class operator byte }
 {
-    match b {
-        b'\n' | b';' | b'&' | b'|' | b'>' | b'(' | b')' => true,
-        _ => false,
-    }
+    matches!(byte, b'\n' | b';' | b'&' | b'|' | b'>' | b'(' | b')')
 }
 
 // What would be expanded or read in another way, and the control bytes.
-fn is_special(b: u8) -> bool
-    ensures { result ≡ in_class special b }
+fn is_special(byte: u8) -> bool
+    ensures { result ≡ in_class special byte }
 {
-    match b {
-        b'$' | b'`' | b'<' | b'#' | b'*' | b'?' | b'[' | b'~' | 0x7f => true,
-        _ => b <= 0x08 || b >= 0x0b && b <= 0x1f,
-    }
+    matches!(
+        byte,
+        b'$' | b'`' | b'<' | b'#' | b'*' | b'?' | b'[' | b'~' | 0x00..=0x08 | 0x0b..=0x1f | 0x7f
+    )
 }
 
 // What a backslash keeps between double quotes.
-fn is_escaped(b: u8) -> bool
-    ensures { result ≡ in_class escaped b }
+fn is_escaped(byte: u8) -> bool
+    ensures { result ≡ in_class escaped byte }
 {
-    b == b'$' || b == b'`' || b == b'"' || b == b'\\'
+    matches!(byte, b'$' | b'`' | b'"' | b'\\')
 }
 
 // Between words: a blank is passed over, an operator is a token of its own, any other byte begins a word.
@@ -121,19 +105,19 @@ fn at_gap(byte: u8) -> Result<Move, Refused>
     ensures { answered result ≡ stepped gap byte }
 {
     if is_blank(byte) {
-        Ok(passing_to(GAP))
+        Ok(passing_to(Context::Gap))
     } else if is_operator(byte) {
-        Ok(then_closing(keeping_to(GAP, byte), OPERATOR))
+        Ok(then_closing(keeping_to(Context::Gap, byte), Kind::Operator))
     } else if byte == b'\'' {
-        Ok(opening_to(SINGLE_QUOTED))
+        Ok(opening_to(Context::SingleQuoted))
     } else if byte == b'"' {
-        Ok(opening_to(DOUBLE_QUOTED))
+        Ok(opening_to(Context::DoubleQuoted))
     } else if byte == b'\\' {
-        Ok(passing_to(BACKSLASH_IN_GAP))
+        Ok(passing_to(Context::BackslashInGap))
     } else if is_special(byte) {
         Err(Refused)
     } else {
-        Ok(keeping_to(IN_WORD, byte))
+        Ok(keeping_to(Context::InWord, byte))
     }
 }
 
@@ -142,30 +126,28 @@ fn at_word(byte: u8) -> Result<Move, Refused>
     ensures { answered result ≡ stepped in_word byte }
 {
     if byte == b'\'' {
-        Ok(passing_to(SINGLE_QUOTED))
+        Ok(passing_to(Context::SingleQuoted))
     } else if byte == b'"' {
-        Ok(passing_to(DOUBLE_QUOTED))
+        Ok(passing_to(Context::DoubleQuoted))
     } else if byte == b'\\' {
-        Ok(passing_to(BACKSLASH_IN_WORD))
+        Ok(passing_to(Context::BackslashInWord))
     } else if byte == b'#' {
-        Ok(keeping_to(IN_WORD, byte))
-    } else if is_blank(byte) {
-        Ok(after_closing(WORD, passing_to(GAP)))
-    } else if is_operator(byte) {
-        Ok(after_closing(WORD, then_closing(keeping_to(GAP, byte), OPERATOR)))
+        Ok(keeping_to(Context::InWord, byte))
+    } else if is_blank(byte) || is_operator(byte) {
+        closing_first(Kind::Word, at_gap(byte))
     } else {
         at_gap(byte)
     }
 }
 
 // A line feed goes back, and another byte begins or continues a word.
-fn after_backslash(back: u8, byte: u8) -> Result<Move, Refused>
-    ensures { answered result ≡ stepped (escape back) byte }
+fn after_backslash(back: Context, byte: u8) -> Result<Move, Refused>
+    ensures { answered result ≡ stepped (escape (context_number back)) byte }
 {
     match byte {
         b'\n' => Ok(passing_to(back)),
         0 => Err(Refused),
-        _ => Ok(keeping_to(IN_WORD, byte)),
+        _ => Ok(keeping_to(Context::InWord, byte)),
     }
 }
 
@@ -174,9 +156,9 @@ fn at_single_quoted(byte: u8) -> Result<Move, Refused>
     ensures { answered result ≡ stepped in_single byte }
 {
     match byte {
-        b'\'' => Ok(passing_to(IN_WORD)),
+        b'\'' => Ok(passing_to(Context::InWord)),
         0 => Err(Refused),
-        _ => Ok(keeping_to(SINGLE_QUOTED, byte)),
+        _ => Ok(keeping_to(Context::SingleQuoted, byte)),
     }
 }
 
@@ -185,10 +167,10 @@ fn at_double_quoted(byte: u8) -> Result<Move, Refused>
     ensures { answered result ≡ stepped in_double byte }
 {
     match byte {
-        b'"' => Ok(passing_to(IN_WORD)),
-        b'\\' => Ok(passing_to(BACKSLASH_IN_QUOTES)),
+        b'"' => Ok(passing_to(Context::InWord)),
+        b'\\' => Ok(passing_to(Context::BackslashInQuotes)),
         b'$' | b'`' | 0 => Err(Refused),
-        _ => Ok(keeping_to(DOUBLE_QUOTED, byte)),
+        _ => Ok(keeping_to(Context::DoubleQuoted, byte)),
     }
 }
 
@@ -197,9 +179,9 @@ fn after_quoted_backslash(byte: u8) -> Result<Move, Refused>
     ensures { answered result ≡ stepped escape_in_double byte }
 {
     if is_escaped(byte) {
-        Ok(keeping_to(DOUBLE_QUOTED, byte))
+        Ok(keeping_to(Context::DoubleQuoted, byte))
     } else if byte == b'\n' {
-        Ok(passing_to(DOUBLE_QUOTED))
+        Ok(passing_to(Context::DoubleQuoted))
     } else {
         Err(Refused)
     }
