@@ -55,6 +55,6 @@ impl<const N: usize> Bytes<N> {
     pub fn len(&self) -> usize
         ensures { result ≡ self.now.len }
     {
-        self.len
+        self.as_slice().len()
     }
 }
