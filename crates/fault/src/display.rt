@@ -5,6 +5,7 @@ ghost use Rattle.fault.specs.Words.{flaw_words_lem, fault_words_lem, fault_line,
 
 use crate::fault::Fault;
 use crate::flaw::Flaw;
+use std::error::Error;
 use std::fmt;
 
 #[tactic(auto, unfolding(crate::specs::Words::flaw_words_lem))]
@@ -52,6 +53,7 @@ fn fault_words(fault: &Fault) -> &'static str
     }
 }
 
+// By hand, and by no derive: what is written is promised, byte for byte.
 impl fmt::Display for Fault {
     ghost output = { λ fault. Some (refusal_line fault) };
 
@@ -82,3 +84,7 @@ impl fmt::Display for Flaw {
         Fault::Template(*self).fmt(f)
     }
 }
+
+impl Error for Fault {}
+
+impl Error for Flaw {}
