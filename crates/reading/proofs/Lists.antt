@@ -2,19 +2,18 @@
 use Rattle.std.proofs.Common.{◌≡◌, ℕ, suc, ◌+◌, ◌<◌, ◌≤◌, List, [], ◌∷◌, ◌++◌, length, drop, Some, None, Ok, Err, Option, Result, sym, refl, ap, ◌∙◌, subst, append_assoc, append-nil, add-zero, zero-add, arith}
 use Rattle.std.proofs.lemmas.List.{length-append, length_push, nil_from_length}
 use Rattle.std.proofs.lemmas.Bool.Decides.{nat_tests}
-use Rattle.std.proofs.lemmas.Bool.{cond-true, cond-false, lt-ltb, le-ltb}
 use Rattle.host.specs.declared.effect.Effect.{Effect}
 use Rattle.host.specs.declared.effect.Middle.{Middle}
 use Rattle.host.specs.declared.effect.Middle.TheVariants.{Nothing, Open, Keep}
 use Rattle.host.specs.Meaning.{Meaning, Sound, chain}
-use Rattle.host.specs.Run.{Symbol, byte, mark, Token, State, start, opened, close, add, do_middle, apply, enter, read_bytes, read_end, reading}
-use Rattle.host.proofs.Chains.{inside, none_some}
+use Rattle.host.specs.Run.{Symbol, byte, mark, Token, State, start, opened, close, do_middle, apply, enter, read_bytes, read_end, reading}
+use Rattle.host.proofs.Chains.{inside}
 use Rattle.fault.specs.declared.fault.Fault.{Fault}
 use Rattle.reading.specs.declared.cursor.Cursor.{Cursor}
 use Rattle.fault.specs.Refusal.{Refusal, refusal_of, told, plain}
-use Rattle.reading.specs.Listing.{bytes_of, field, fields, by_step, read_before, by_reading, listing}
+use Rattle.reading.specs.Listing.{bytes_of, field, fields, by_step, read_before, listing}
 use Rattle.reading.specs.Cursors.{close_cursor, keep_cursor, after_cursor, write_close, write_middle, write_effect}
-use Rattle.reading.specs.Passes.{origin, measure_end, measure_step, measured, write_end, write_step, written}
+use Rattle.reading.specs.Passes.{origin, measure_step, measured, written}
 use Rattle.reading.proofs.Reach.{reach, OpenHeld, close_reach, keep_reach, after_reach, open_more, end_empty}
 use Rattle.reading.proofs.Layouts.{lay, lay_empty, lay_head, lay_byte}
 

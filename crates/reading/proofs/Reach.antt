@@ -1,5 +1,5 @@
 -- How far what is written at a cursor reaches: no further than what is measured. Assumes nothing.
-use Rattle.std.proofs.Common.{◌≡◌, ℕ, ◌+◌, ◌*◌, ◌<◌, ◌≤◌, min, Bool, true, false, List, [], ◌∷◌, Some, None, Ok, Option, sym, refl, ◌∙◌, arith}
+use Rattle.std.proofs.Common.{◌≡◌, ℕ, ◌+◌, ◌*◌, ◌<◌, ◌≤◌, min, Bool, true, false, Some, None, Option, sym, refl, ◌∙◌, arith}
 use Rattle.std.proofs.lemmas.Bool.{false≢true}
 use Rattle.host.specs.declared.effect.Effect.{Effect}
 use Rattle.host.specs.declared.effect.Middle.{Middle}
@@ -8,7 +8,6 @@ use Rattle.host.specs.Meaning.{Meaning, Sound, open_closing, open_middle, open_a
 use Rattle.host.proofs.Chains.{holds}
 use Rattle.reading.specs.declared.cursor.Cursor.{Cursor}
 use Rattle.reading.specs.Cursors.{close_cursor, keep_cursor, after_cursor}
-use Rattle.reading.specs.Passes.{measure_end, measure_step, measured}
 
 -- the place after all that is written at a cursor: an open token with bytes has room for its head before them
 abbrev pub reach : Cursor → ℕ
