@@ -14,7 +14,7 @@ use Rattle.fault.specs.Refusal.{Refusal, refusal_of, told, plain}
 use Rattle.reading.specs.Listing.{bytes_of, field, fields, by_step, read_before, listing}
 use Rattle.reading.specs.Cursors.{close_cursor, keep_cursor, after_cursor, write_close, write_middle, write_effect}
 use Rattle.reading.specs.Passes.{origin, measure_step, measured, written}
-use Rattle.reading.proofs.Reach.{reach, OpenHeld, close_reach, keep_reach, after_reach, open_more, end_empty}
+use Rattle.reading.proofs.Reach.{reach, OpenHeld, after_reach, open_more, end_empty}
 use Rattle.reading.proofs.Layouts.{lay, lay_empty, lay_head, lay_byte}
 
 fields_append : (ts us : List Token) → fields (ts ++ us) ≡ fields ts ++ fields us
@@ -86,7 +86,7 @@ module _ (old : List ℕ) where
   lay_middle (Keep b) s fits = rw (bytes_append (opened s.current) (byte b ∷ [])) (lay_byte old (fields s.closed) (holding s) b (omega arith))
 
   lay_effect : (e : Effect) (s : State) → reach (after_cursor e (cursor_of s)) ≤ length old → write_effect e (cursor_of s) (layout old s) ≡ layout old (apply e s)
-  lay_effect e s fits = grind (arith, lay_close, lay_middle, cursor_close, cursor_middle, close_reach, keep_reach)
+  lay_effect e s fits = grind (arith, lay_close, lay_middle, cursor_close, cursor_middle)
 
   module _ (m : Meaning) (sound : Sound m) where
     -- a text that is read on to these tokens: what is written so far lies in their fields, and the rest comes to them

@@ -14,33 +14,15 @@ abbrev pub reach : Cursor → ℕ
 reach k = k.at + (k.held + min (3 * k.held) 3)
 
 -- nothing that is written is taken back
-pub close_reach : (o : Option ℕ) (k : Cursor) → reach k ≤ reach (close_cursor o k)
-close_reach None k = omega arith
-close_reach (Some kind) k = omega arith
-
-pub keep_reach : (d : Middle) (k : Cursor) → reach k ≤ reach (keep_cursor d k)
-keep_reach Nothing k = omega arith
-keep_reach Open k = omega arith
-keep_reach (Keep b) k = omega arith
-
 pub after_reach : (e : Effect) (k : Cursor) → reach k ≤ reach (after_cursor e k)
-after_reach e k = grind (arith, close_reach, keep_reach)
+after_reach e k = grind arith
 
 -- a token that holds bytes is open
 abbrev pub OpenHeld : Meaning → ℕ → Cursor → Type 0
 OpenHeld m c k = 0 < k.held → m.is_open c ≡ true
 
-close_open : (o : Option ℕ) (k : Cursor) (b : Bool) → (0 < k.held → b ≡ true) → 0 < (close_cursor o k).held → open_closing o b ≡ true
-close_open None k b h = h
-close_open (Some kind) k b h = λ lt. absurd (omega arith)
-
-keep_open : (d : Middle) (k : Cursor) (b : Bool) → (0 < k.held → b ≡ true) → 0 < (keep_cursor d k).held → open_middle d b ≡ true
-keep_open Nothing k b h = h
-keep_open Open k b h = λ _. refl
-keep_open (Keep x) k b h = λ _. refl
-
 after_open : (e : Effect) (k : Cursor) (b : Bool) → (0 < k.held → b ≡ true) → 0 < (after_cursor e k).held → open_after e b ≡ true
-after_open e k b h = close_open e.last _ _ (keep_open e.middle _ _ (close_open e.first k b h))
+after_open e k b h lt = grind arith
 
 module _ (m : Meaning) (sound : Sound m) where
   pub open_more : (c b : ℕ) (k : Cursor) (s : ℕ × Effect) → Some s ≡ m.step c b → OpenHeld m c k → OpenHeld m s.0 (after_cursor s.1 k)
