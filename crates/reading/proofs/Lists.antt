@@ -49,7 +49,7 @@ cursor_middle Open s = simp append-nil
 cursor_middle (Keep b) s = simp (bytes_append, length_push)
 
 cursor_apply : (e : Effect) (s : State) → cursor_of (apply e s) ≡ after_cursor e (cursor_of s)
-cursor_apply e s = let one = close e.first s in rw (cursor_close e.last (do_middle e.middle one), cursor_middle e.middle one, cursor_close e.first s)
+cursor_apply e s = grind (arith, cursor_close, cursor_middle)
 
 -- the first pass
 abbrev pub sized : Option (List Token) → ℕ → Result ℕ Refusal

@@ -26,11 +26,14 @@ after_open e k b h lt = grind arith
 
 module _ (m : Meaning) (sound : Sound m) where
   pub open_more : (c b : ℕ) (k : Cursor) (s : ℕ × Effect) → Some s ≡ m.step c b → OpenHeld m c k → OpenHeld m s.0 (after_cursor s.1 k)
-  open_more c b k s e h lt = sym (holds (λ s. open_after s.1 (m.is_open c) ≡ m.is_open s.0) (sym e) (sound.step_marks c b)) ∙ after_open s.1 k (m.is_open c) h lt
+  open_more c b k s e h lt =
+      let marks = sound.step_marks c b in
+      let after = after_open s.1 k (m.is_open c) h lt in
+      grind arith
 
   -- at the end no token holds bytes
   pub end_empty : (c : ℕ) (k : Cursor) (e : Effect) → Some e ≡ m.end c → OpenHeld m c k → (after_cursor e k).held ≡ 0
   end_empty c k e q h =
-      let shut = holds (λ e. open_after e (m.is_open c) ≡ false) (sym q) (sound.end_shuts c) in
-      let none : 0 < (after_cursor e k).held → ⊥ = λ lt. false≢true (sym shut ∙ after_open e k (m.is_open c) h lt) in
-      omega arith
+      let shut = sound.end_shuts c in
+      let after = after_open e k (m.is_open c) h in
+      grind arith
