@@ -1,4 +1,4 @@
--- The two passes come to the listing of the reading. Assumes nothing.
+-- What a walk over a text measures and writes comes to the listing of the reading. Assumes nothing.
 use Rattle.std.proofs.Common.{◌≡◌, ℕ, suc, ◌+◌, ◌<◌, ◌≤◌, List, [], ◌∷◌, ◌++◌, length, drop, Some, None, Ok, Err, Option, Result, sym, refl, ap, ◌∙◌, subst, append_assoc, append-nil, add-zero, zero-add, arith}
 use Rattle.std.proofs.lemmas.List.{length-append, length_push, nil_from_length}
 use Rattle.std.proofs.lemmas.Bool.Decides.{nat_tests}
@@ -51,7 +51,7 @@ cursor_middle (Keep b) s = simp (bytes_append, length_push)
 cursor_apply : (e : Effect) (s : State) → cursor_of (apply e s) ≡ after_cursor e (cursor_of s)
 cursor_apply e s = grind (arith, cursor_close, cursor_middle)
 
--- the first pass
+-- what is measured
 abbrev pub sized : Option (List Token) → ℕ → Result ℕ Refusal
 sized None p = Err (plain 19 p)
 sized (Some ts) p = Ok (length (fields ts))
@@ -71,7 +71,7 @@ module _ (m : Meaning) where
   pub measures_reading : (bs : List ℕ) → told (measured m bs 0 origin 0) ≡ sized (reading m bs) (read_before m bs start)
   measures_reading bs = let e = measure_is bs start 0 in simp zero-add at e
 
--- the second pass
+-- what is written
 abbrev layout : List ℕ → State → List ℕ
 layout old s = lay old (fields s.closed) (holding s)
 
@@ -121,7 +121,7 @@ module _ (old : List ℕ) where
     pub writes_reading : (bs : List ℕ) (ts : List Token) → reading m bs ≡ Some ts → length (fields ts) ≤ length old → written m bs 0 origin old ≡ fields ts ++ drop (length (fields ts)) old
     writes_reading bs ts e fits = ap (written m bs 0 origin) (sym (lay_empty old [])) ∙ (writes bs start ts (λ lt. absurd (omega arith)) e).comes fits
 
--- what the first pass tells of the listing of a text that is not too long
+-- what is measured tells the listing of a text that is not too long
 module _ (m : Meaning) (text out : List ℕ) (few : length text ≤ 65534) where
   pub listing_refused : (f : Fault) → measured m text 0 origin 0 ≡ Err f → listing m text (length out) ≡ Err (refusal_of f)
   listing_refused f e = let r = measures_reading m text in grind (arith, nat_tests)

@@ -1,13 +1,9 @@
 -- How far what is written at a cursor reaches: no further than what is measured. Assumes nothing.
-use Rattle.std.proofs.Common.{◌≡◌, ℕ, ◌+◌, ◌*◌, ◌<◌, ◌≤◌, min, Bool, true, false, Some, None, Option, sym, refl, ◌∙◌, arith}
-use Rattle.std.proofs.lemmas.Bool.{false≢true}
+use Rattle.std.proofs.Common.{◌≡◌, ℕ, ◌+◌, ◌*◌, ◌<◌, ◌≤◌, min, Bool, true, Some, arith}
 use Rattle.host.specs.declared.effect.Effect.{Effect}
-use Rattle.host.specs.declared.effect.Middle.{Middle}
-use Rattle.host.specs.declared.effect.Middle.TheVariants.{Nothing, Open, Keep}
-use Rattle.host.specs.Meaning.{Meaning, Sound, open_closing, open_middle, open_after}
-use Rattle.host.proofs.Chains.{holds}
+use Rattle.host.specs.Meaning.{Meaning, Sound, open_after}
 use Rattle.reading.specs.declared.cursor.Cursor.{Cursor}
-use Rattle.reading.specs.Cursors.{close_cursor, keep_cursor, after_cursor}
+use Rattle.reading.specs.Cursors.{after_cursor}
 
 -- the place after all that is written at a cursor: an open token with bytes has room for its head before them
 abbrev pub reach : Cursor → ℕ
