@@ -1,21 +1,20 @@
--- The two passes come to the listing of the reading. Assumes nothing.
+-- What a walk over a text measures and writes comes to the listing of the reading. Assumes nothing.
 use Rattle.std.proofs.Common.{◌≡◌, ℕ, suc, ◌+◌, ◌<◌, ◌≤◌, List, [], ◌∷◌, ◌++◌, length, drop, Some, None, Ok, Err, Option, Result, sym, refl, ap, ◌∙◌, subst, append_assoc, append-nil, add-zero, zero-add, arith}
 use Rattle.std.proofs.lemmas.List.{length-append, length_push, nil_from_length}
 use Rattle.std.proofs.lemmas.Bool.Decides.{nat_tests}
-use Rattle.std.proofs.lemmas.Bool.{cond-true, cond-false, lt-ltb, le-ltb}
 use Rattle.host.specs.declared.effect.Effect.{Effect}
 use Rattle.host.specs.declared.effect.Middle.{Middle}
 use Rattle.host.specs.declared.effect.Middle.TheVariants.{Nothing, Open, Keep}
 use Rattle.host.specs.Meaning.{Meaning, Sound, chain}
-use Rattle.host.specs.Run.{Symbol, byte, mark, Token, State, start, opened, close, add, do_middle, apply, enter, read_bytes, read_end, reading}
-use Rattle.host.proofs.Chains.{inside, none_some}
+use Rattle.host.specs.Run.{Symbol, byte, mark, Token, State, start, opened, close, do_middle, apply, enter, read_bytes, read_end, reading}
+use Rattle.host.proofs.Chains.{inside}
 use Rattle.fault.specs.declared.fault.Fault.{Fault}
 use Rattle.reading.specs.declared.cursor.Cursor.{Cursor}
 use Rattle.fault.specs.Refusal.{Refusal, refusal_of, told, plain}
-use Rattle.reading.specs.Listing.{bytes_of, field, fields, by_step, read_before, by_reading, listing}
+use Rattle.reading.specs.Listing.{bytes_of, field, fields, by_step, read_before, listing}
 use Rattle.reading.specs.Cursors.{close_cursor, keep_cursor, after_cursor, write_close, write_middle, write_effect}
-use Rattle.reading.specs.Passes.{origin, measure_end, measure_step, measured, write_end, write_step, written}
-use Rattle.reading.proofs.Reach.{reach, OpenHeld, close_reach, keep_reach, after_reach, open_more, end_empty}
+use Rattle.reading.specs.Passes.{origin, measure_step, measured, written}
+use Rattle.reading.proofs.Reach.{reach, OpenHeld, after_reach, open_more, end_empty}
 use Rattle.reading.proofs.Layouts.{lay, lay_empty, lay_head, lay_byte}
 
 fields_append : (ts us : List Token) → fields (ts ++ us) ≡ fields ts ++ fields us
@@ -50,9 +49,9 @@ cursor_middle Open s = simp append-nil
 cursor_middle (Keep b) s = simp (bytes_append, length_push)
 
 cursor_apply : (e : Effect) (s : State) → cursor_of (apply e s) ≡ after_cursor e (cursor_of s)
-cursor_apply e s = let one = close e.first s in rw (cursor_close e.last (do_middle e.middle one), cursor_middle e.middle one, cursor_close e.first s)
+cursor_apply e s = grind (arith, cursor_close, cursor_middle)
 
--- the first pass
+-- what is measured
 abbrev pub sized : Option (List Token) → ℕ → Result ℕ Refusal
 sized None p = Err (plain 19 p)
 sized (Some ts) p = Ok (length (fields ts))
@@ -72,7 +71,7 @@ module _ (m : Meaning) where
   pub measures_reading : (bs : List ℕ) → told (measured m bs 0 origin 0) ≡ sized (reading m bs) (read_before m bs start)
   measures_reading bs = let e = measure_is bs start 0 in simp zero-add at e
 
--- the second pass
+-- what is written
 abbrev layout : List ℕ → State → List ℕ
 layout old s = lay old (fields s.closed) (holding s)
 
@@ -87,7 +86,7 @@ module _ (old : List ℕ) where
   lay_middle (Keep b) s fits = rw (bytes_append (opened s.current) (byte b ∷ [])) (lay_byte old (fields s.closed) (holding s) b (omega arith))
 
   lay_effect : (e : Effect) (s : State) → reach (after_cursor e (cursor_of s)) ≤ length old → write_effect e (cursor_of s) (layout old s) ≡ layout old (apply e s)
-  lay_effect e s fits = grind (arith, lay_close, lay_middle, cursor_close, cursor_middle, close_reach, keep_reach)
+  lay_effect e s fits = grind (arith, lay_close, lay_middle, cursor_close, cursor_middle)
 
   module _ (m : Meaning) (sound : Sound m) where
     -- a text that is read on to these tokens: what is written so far lies in their fields, and the rest comes to them
@@ -122,7 +121,7 @@ module _ (old : List ℕ) where
     pub writes_reading : (bs : List ℕ) (ts : List Token) → reading m bs ≡ Some ts → length (fields ts) ≤ length old → written m bs 0 origin old ≡ fields ts ++ drop (length (fields ts)) old
     writes_reading bs ts e fits = ap (written m bs 0 origin) (sym (lay_empty old [])) ∙ (writes bs start ts (λ lt. absurd (omega arith)) e).comes fits
 
--- what the first pass tells of the listing of a text that is not too long
+-- what is measured tells the listing of a text that is not too long
 module _ (m : Meaning) (text out : List ℕ) (few : length text ≤ 65534) where
   pub listing_refused : (f : Fault) → measured m text 0 origin 0 ≡ Err f → listing m text (length out) ≡ Err (refusal_of f)
   listing_refused f e = let r = measures_reading m text in grind (arith, nat_tests)

@@ -1,55 +1,35 @@
 -- How far what is written at a cursor reaches: no further than what is measured. Assumes nothing.
-use Rattle.std.proofs.Common.{◌≡◌, ℕ, ◌+◌, ◌*◌, ◌<◌, ◌≤◌, min, Bool, true, false, List, [], ◌∷◌, Some, None, Ok, Option, sym, refl, ◌∙◌, arith}
-use Rattle.std.proofs.lemmas.Bool.{false≢true}
+use Rattle.std.proofs.Common.{◌≡◌, ℕ, ◌+◌, ◌*◌, ◌<◌, ◌≤◌, min, Bool, true, Some, arith}
 use Rattle.host.specs.declared.effect.Effect.{Effect}
-use Rattle.host.specs.declared.effect.Middle.{Middle}
-use Rattle.host.specs.declared.effect.Middle.TheVariants.{Nothing, Open, Keep}
-use Rattle.host.specs.Meaning.{Meaning, Sound, open_closing, open_middle, open_after}
-use Rattle.host.proofs.Chains.{holds}
+use Rattle.host.specs.Meaning.{Meaning, Sound, open_after}
 use Rattle.reading.specs.declared.cursor.Cursor.{Cursor}
-use Rattle.reading.specs.Cursors.{close_cursor, keep_cursor, after_cursor}
-use Rattle.reading.specs.Passes.{measure_end, measure_step, measured}
+use Rattle.reading.specs.Cursors.{after_cursor}
 
 -- the place after all that is written at a cursor: an open token with bytes has room for its head before them
 abbrev pub reach : Cursor → ℕ
 reach k = k.at + (k.held + min (3 * k.held) 3)
 
 -- nothing that is written is taken back
-pub close_reach : (o : Option ℕ) (k : Cursor) → reach k ≤ reach (close_cursor o k)
-close_reach None k = omega arith
-close_reach (Some kind) k = omega arith
-
-pub keep_reach : (d : Middle) (k : Cursor) → reach k ≤ reach (keep_cursor d k)
-keep_reach Nothing k = omega arith
-keep_reach Open k = omega arith
-keep_reach (Keep b) k = omega arith
-
 pub after_reach : (e : Effect) (k : Cursor) → reach k ≤ reach (after_cursor e k)
-after_reach e k = grind (arith, close_reach, keep_reach)
+after_reach e k = grind arith
 
 -- a token that holds bytes is open
 abbrev pub OpenHeld : Meaning → ℕ → Cursor → Type 0
 OpenHeld m c k = 0 < k.held → m.is_open c ≡ true
 
-close_open : (o : Option ℕ) (k : Cursor) (b : Bool) → (0 < k.held → b ≡ true) → 0 < (close_cursor o k).held → open_closing o b ≡ true
-close_open None k b h = h
-close_open (Some kind) k b h = λ lt. absurd (omega arith)
-
-keep_open : (d : Middle) (k : Cursor) (b : Bool) → (0 < k.held → b ≡ true) → 0 < (keep_cursor d k).held → open_middle d b ≡ true
-keep_open Nothing k b h = h
-keep_open Open k b h = λ _. refl
-keep_open (Keep x) k b h = λ _. refl
-
 after_open : (e : Effect) (k : Cursor) (b : Bool) → (0 < k.held → b ≡ true) → 0 < (after_cursor e k).held → open_after e b ≡ true
-after_open e k b h = close_open e.last _ _ (keep_open e.middle _ _ (close_open e.first k b h))
+after_open e k b h lt = grind arith
 
 module _ (m : Meaning) (sound : Sound m) where
   pub open_more : (c b : ℕ) (k : Cursor) (s : ℕ × Effect) → Some s ≡ m.step c b → OpenHeld m c k → OpenHeld m s.0 (after_cursor s.1 k)
-  open_more c b k s e h lt = sym (holds (λ s. open_after s.1 (m.is_open c) ≡ m.is_open s.0) (sym e) (sound.step_marks c b)) ∙ after_open s.1 k (m.is_open c) h lt
+  open_more c b k s e h lt =
+      let marks = sound.step_marks c b in
+      let after = after_open s.1 k (m.is_open c) h lt in
+      grind arith
 
   -- at the end no token holds bytes
   pub end_empty : (c : ℕ) (k : Cursor) (e : Effect) → Some e ≡ m.end c → OpenHeld m c k → (after_cursor e k).held ≡ 0
   end_empty c k e q h =
-      let shut = holds (λ e. open_after e (m.is_open c) ≡ false) (sym q) (sound.end_shuts c) in
-      let none : 0 < (after_cursor e k).held → ⊥ = λ lt. false≢true (sym shut ∙ after_open e k (m.is_open c) h lt) in
-      omega arith
+      let shut = sound.end_shuts c in
+      let after = after_open e k (m.is_open c) h in
+      grind arith

@@ -1,5 +1,5 @@
 -- A text without a reading is read up to the place that is told, and no further.
-use Rattle.std.proofs.Common.{◌≡◌, ℕ, List, [], ◌∷◌, take, Some, None, Option, refl, ap, ◌∙◌, arith}
+use Rattle.std.proofs.Common.{◌≡◌, ℕ, List, [], ◌∷◌, Some, None, Option, refl, arith}
 use Rattle.host.specs.Meaning.{Meaning, chain}
 use Rattle.host.specs.Run.{State, start, enter, apply, read_byte, read_bytes, read_end}
 use Rattle.reading.specs.Listing.{by_step, read_before, RefusedAt, RefusedRightly}
@@ -17,7 +17,7 @@ refused m (b ∷ bs) s e = go (λ t f. refused m bs t f) (read_byte m b s) refl 
     go after None is f = record { within = omega arith; reached = s; before = refl; here = none_of (λ r. enter r.0 (apply r.1 s)) (m.step s.context b) is }
     go after (Some t) is f =
         let r = after t f in
-        record { within = omega (arith, r.within); reached = r.reached; before = ap (λ o. chain o (read_bytes m (take (read_before m bs t) bs))) is ∙ r.before; here = r.here }
+        record { within = omega (arith, r.within); reached = r.reached; before = rw is r.before; here = r.here }
 
 pub refused_rightly : (m : Meaning) (bs : List ℕ) → RefusedRightly m bs
 refused_rightly m bs e = refused m bs start e

@@ -1,4 +1,4 @@
--- What the two passes do, by marks alone: how far the listing has come, and what is written there. Assumes nothing.
+-- What a walk over a text does, by marks alone: how far the listing has come, and what is written there. Assumes nothing.
 use Rattle.std.specs.Prelude.{ℕ, ◌+◌, ◌/◌, ◌%◌, List, Some, None, Option, slice_set}
 use Rattle.host.specs.declared.effect.Effect.{Effect}
 use Rattle.host.specs.declared.effect.Middle.{Middle}

@@ -1,4 +1,4 @@
--- What each pass over a text does, from a context and a cursor on. Assumes nothing.
+-- What a walk over a text answers and writes, from a context and a cursor on. Assumes nothing.
 use Rattle.std.specs.Prelude.{ℕ, ◌+◌, List, [], ◌∷◌, Some, None, Ok, Err, Option, Result}
 use Rattle.host.specs.declared.effect.Effect.{Effect}
 use Rattle.host.specs.Meaning.{Meaning}
@@ -10,7 +10,7 @@ use Rattle.reading.specs.Cursors.{after_cursor, write_effect}
 abbrev pub origin : Cursor
 origin = record { at = 0; held = 0 }
 
--- The first pass: the length of the fields, or the place that is refused.
+-- The answer: the length of the fields, or the place that is refused.
 abbrev pub measure_end : Option Effect → Cursor → ℕ → Result ℕ Fault
 measure_end None k p = Err (TextRefused p)
 measure_end (Some e) k p = Ok (after_cursor e k).at
@@ -23,7 +23,7 @@ abbrev pub measured : Meaning → List ℕ → ℕ → Cursor → ℕ → Result
 measured m [] c k p = measure_end (m.end c) k p
 measured m (b ∷ bs) c k p = measure_step (m.step c b) k p (measured m bs)
 
--- The second pass: the output.
+-- The output, as far as it has places.
 abbrev pub write_end : Option Effect → Cursor → List ℕ → List ℕ
 write_end None k out = out
 write_end (Some e) k out = write_effect e k out

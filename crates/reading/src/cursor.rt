@@ -1,4 +1,4 @@
-// How far a listing has come, and what an effect writes.
+// How far a listing has come, and what an effect writes there.
 ghost use Rattle.std.specs.Prelude.{◌≡◌, ◌+◌, ◌^◌, ◌<◌, slice_set};
 ghost use Rattle.reading.specs.Cursors.{close_cursor, after_cursor, write_close, write_effect};
 
@@ -12,7 +12,7 @@ pub struct Cursor {
 }
 
 impl Cursor {
-    // Closes the open token, where there is a closing: its head goes before its bytes.
+    // Ends the open token, if there is a closing: its kind and its length go before its bytes.
     fn close(&mut self, kind: Option<u8>, out: &mut [u8])
         requires { self.old.at < 2 ^ 33 }
         ensures cursor { self.new ≡ close_cursor kind self.old }
@@ -27,8 +27,8 @@ impl Cursor {
         self.held = 0;
     }
 
-    // Does what an effect does: a closing, a middle and a closing.
-    pub fn take(&mut self, effect: Effect, out: &mut [u8])
+    // Does what an effect says: a closing, a middle and a closing.
+    pub fn apply(&mut self, effect: Effect, out: &mut [u8])
         requires at { self.old.at < 2 ^ 32 }
         requires held { self.old.held < 65535 }
         ensures cursor { self.new ≡ after_cursor effect self.old }
@@ -43,7 +43,7 @@ impl Cursor {
     }
 }
 
-// Writes a byte where the output has the place.
+// Writes a byte at a place, if the output has it.
 fn put(out: &mut [u8], place: usize, byte: u8)
     ensures { out.new ≡ slice_set out.old place byte }
 {

@@ -29,13 +29,13 @@ fn walk<H: Host>(host: &H, text: &[u8], out: &mut [u8]) -> Result<usize, Fault>
         let (next, effect) = host
             .step(context, *byte)
             .map_err(|_| Fault::TextRefused { place })?;
-        cursor.take(effect, out);
+        cursor.apply(effect, out);
         context = next;
     }
     let effect = host
         .end(context)
         .map_err(|_| Fault::TextRefused { place: text.len() })?;
-    cursor.take(effect, out);
+    cursor.apply(effect, out);
     Ok(cursor.at)
 }
 
@@ -48,7 +48,7 @@ pub fn list<H: Host>(host: &H, text: &[u8], out: &mut [u8]) -> Result<usize, Fau
     if text.len() > MOST {
         return Err(Fault::TextTooLong);
     }
-    // The first walk writes nothing.
+    // Without an output, the walk only measures.
     let needed = walk(host, text, &mut [])?;
     if needed > out.len() {
         return Err(Fault::OutputTooShort { needed });
