@@ -6,11 +6,7 @@ use Rattle.record.specs.declared.writer.Pair.{Pair as Lent}
 use Rattle.record.specs.Format.{Pair, field, packed, GoodPair}
 use Rattle.record.specs.Writing.{pair_in, pairs_in}
 use Rattle.record.proofs.Fields.{good_short}
-use Rattle.record.proofs.Laws.{packed_more}
-
--- a field's head and its bytes, put one after the other
-pub field_put : (was head now : List ℕ) (tag : ℕ) (bytes : List ℕ) → head ≡ was ++ (tag ∷ length bytes / 256 ∷ length bytes % 256 ∷ []) → now ≡ head ++ bytes → now ≡ was ++ field tag bytes
-field_put was head now tag bytes first second = second ∙ ap (λ l. l ++ bytes) first ∙ append_assoc was (tag ∷ length bytes / 256 ∷ length bytes % 256 ∷ []) bytes
+use Rattle.record.proofs.Judging.{packed_more}
 
 -- The first i pairs are put: with the rest, the bytes come to the whole, and there is room for it.
 pub record Putting (ls : List Lent) (was file : List ℕ) (cap i : ℕ) : Type 0 where
@@ -39,16 +35,10 @@ module _ {ls : List Lent} {was file : List ℕ} {cap i : ℕ} (s : Putting ls wa
     long : length (packed (pairs_in (drop i ls))) ≡ 3 + length q.0 + (3 + length q.1) + length rest
     long = ap length due ∙ packed_more q (pairs_in (drop (i + 1) ls))
 
-    pub name_fits : (length (get_or ls i d).name.now < 65536) × (length file + (3 + length (get_or ls i d).name.now) ≤ cap)
-    name_fits = let short = good_short q.0 is_good.0.0 in (omega arith, omega (arith, s.room, long))
+    pub short_parts : (length (get_or ls i d).name.now < 65536) × (length (get_or ls i d).value.now < 65536)
+    short_parts = let name = good_short q.0 is_good.0.0 in let value = is_good.0.1 in (omega arith, omega arith)
 
     module _ (one : List ℕ) (cap_one : ℕ) (put : one ≡ file ++ field 1 (get_or ls i d).name.now) (more : cap ≤ cap_one) where
-      pub value_fits : (length (get_or ls i d).value.now < 65536) × (length one + (3 + length (get_or ls i d).value.now) ≤ cap_one)
-      value_fits =
-          let short = is_good.0.1 in
-          let grown : length one ≡ length file + length (field 1 q.0) = ap length put ∙ length-append file (field 1 q.0) in
-          (omega arith, omega (arith, s.room, long))
-
       pub turn : (two : List ℕ) (cap_two : ℕ) → two ≡ one ++ field 2 (get_or ls i d).value.now → cap_one ≤ cap_two → Putting ls was two cap_two (i + 1)
       turn two cap_two again more_two =
           let both : two ≡ (file ++ field 1 q.0) ++ field 2 q.1 = again ∙ ap (λ l. l ++ field 2 q.1) put in
@@ -59,13 +49,3 @@ module _ {ls : List Lent} {was file : List ℕ} {cap i : ℕ} (s : Putting ls wa
             left = ap (λ l. l ++ rest) both ∙ append_assoc (file ++ field 1 q.0) (field 2 q.1) rest ∙ append_assoc file (field 1 q.0) (field 2 q.1 ++ rest) ∙ ap (λ l. file ++ l) (sym due) ∙ s.left;
             room = omega (arith, s.room, long);
           }
-
-  module _ (h : length ls ≤ i) where
-    last : packed (pairs_in (drop i ls)) ≡ field 3 []
-    last = at_drop_all (λ l. packed (pairs_in l)) ls i h
-
-    pub end_fits : length file + (3 + 0) ≤ cap
-    end_fits = omega (arith, s.room, ap length last)
-
-    pub ended : (end : List ℕ) → end ≡ file ++ field 3 [] → end ≡ was ++ packed (pairs_in ls)
-    ended end put = put ∙ ap (λ l. file ++ l) (sym last) ∙ s.left

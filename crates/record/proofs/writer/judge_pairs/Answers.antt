@@ -1,6 +1,5 @@
-use Rattle.std.proofs.Common.{arith}
 use Rattle.std.proofs.lemmas.Result.{err_from_is_err_and}
-use Rattle.record.proofs.Judging.{at_wrong, goes_on, at_last}
+use Rattle.record.proofs.Judging.{at_wrong, goes_on}
 use Rattle.record.proofs.writer.judge_pairs.Goals as goal
 
 pub returns-in_err-at : goal.returns-in_err-at
@@ -9,10 +8,4 @@ returns-in_err-at c =
     rw (p.1, p.2) (at_wrong c.loop-i.invariant _ c.loop-i-test.true _ _ c.in_err-at.ensures.judges)
 
 pub loop-i-preserved : goal.loop-i-preserved
-loop-i-preserved c = goes_on c.loop-i.invariant _ c.loop-i-test.true c.in_ok-at.at c.in_ok-at.ensures.judges c.in_ok-at.ensures.near.0 c.in_ok-at.ensures.near.1
-
-pub overflow_sub-result : goal.overflow_sub-result
-overflow_sub-result c = omega (arith, c.loop-i.invariant.from)
-
-pub returns : goal.returns
-returns c = at_last c.loop-i.invariant c.loop-i-test.false
+loop-i-preserved c = goes_on c.loop-i.invariant _ c.loop-i-test.true _ c.in_ok-at.ensures.judges c.in_ok-at.ensures.near.0 c.in_ok-at.ensures.near.1
