@@ -2,8 +2,8 @@
 use Rattle.std.proofs.Common.{◌≡◌, ℕ, ◌+◌, ◌-◌, ◌*◌, ◌<◌, ◌≤◌, Bool, true, false, cond, ◌||◌, ltb, leb, List, [], ◌∷◌, ◌++◌, length, get_or, take, drop, Some, None, Ok, Err, All, Option, sym, refl, ap, ◌∙◌, subst, ⊎_elim, append_assoc, append-nil, arith}
 use Rattle.std.specs.Str.{bytes_eq}
 use Rattle.std.specs.List.{list_any}
-use Rattle.std.proofs.lemmas.List.{at_drop_more, take_more, map_push, length_push, length-append, length-take-le}
-use Rattle.std.proofs.lemmas.List.Elements.{All-nil, All-cons, All-head, All-tail, All-push}
+use Rattle.std.proofs.lemmas.List.{at_drop_more, take_more, map_push, get_or-map, length_push, length-map, length-append, length-take-le}
+use Rattle.std.proofs.lemmas.List.Elements.{All-nil, All-cons, All-head, All-tail, All-push, All-get_or}
 use Rattle.std.proofs.lemmas.Slice.Eq.{bytes_eq-Decides}
 use Rattle.std.proofs.lemmas.Bool.{cases_Bool, or_from, or_parts}
 use Rattle.std.proofs.lemmas.Bool.Decides.{nat_tests, not_from_Decides}
@@ -14,6 +14,7 @@ use Rattle.record.specs.Format.{Pair, field, packed, Distinct, GoodPair}
 use Rattle.record.specs.Reading.{named}
 use Rattle.record.specs.Writing.{pair_in, pairs_in, after_pair, wrong_pair, or_else, refused_from, refused_pairs, verdict}
 use Rattle.record.specs.Law.{RefusedOrGood}
+use Rattle.record.proofs.Fields.{good_short}
 
 -- whether some pair that is lent has the name
 pub named_in : (wanted : List ℕ) (ls : List Lent) → named wanted (pairs_in ls) ≡ list_any (λ l. bytes_eq l.name.now wanted) ls
@@ -25,47 +26,17 @@ pub verdict_ok : (w : Option Refusal) (e n : ℕ) → Ok n ≡ verdict w e → (
 verdict_ok None e n h = (refl, cc)
 verdict_ok (Some r) e n h = cc
 
-verdict_err : (w : Option Refusal) (e : ℕ) (r : Refusal) → Err r ≡ verdict w e → w ≡ Some r
-verdict_err None e r h = cc
-verdict_err (Some s) e r h = cc
+-- the first pair at fault decides
+pub first_wrong : (ls : List Lent) (i at e n : ℕ) (d : Lent) (r : Refusal) (whole : Option Refusal) → i < length ls → refused_from (pairs_in (take i ls)) at (pairs_in (drop i ls)) ≡ whole → Err r ≡ verdict (wrong_pair (pairs_in (take i ls)) at (pair_in (get_or ls i d))) e → Err r ≡ verdict whole n
+first_wrong ls i at e n d r whole h left judged = go (wrong_pair (pairs_in (take i ls)) at (pair_in (get_or ls i d))) judged (ap (refused_from (pairs_in (take i ls)) at) (sym (at_drop_more pairs_in ls i d h)) ∙ left)
+  where
+    go : (w : Option Refusal) → Err r ≡ verdict w e → or_else w (refused_from (pairs_in (take i ls) ++ pair_in (get_or ls i d) ∷ []) (after_pair at (pair_in (get_or ls i d))) (pairs_in (drop (i + 1) ls))) ≡ whole → Err r ≡ verdict whole n
+    go None judged left = cc
+    go (Some s) judged left = rw (← left) judged
 
 -- the length of a packed record, pair by pair
 pub packed_more : (q : Pair) (qs : List Pair) → length (packed (q ∷ qs)) ≡ 3 + length q.0 + (3 + length q.1) + length (packed qs)
 packed_more q qs = omega (arith, length-append q.0 (field 2 q.1 ++ packed qs), length-append q.1 (packed qs))
-
--- The first i pairs are taken, and the next would stand at a place.
-pub record Sofar (ls : List Lent) (place i at : ℕ) : Type 0 where
-  pub few : i ≤ 64
-  pub from : place ≤ at
-  pub near : at ≤ place + 182 * i
-  pub left : refused_from (pairs_in (take i ls)) at (pairs_in (drop i ls)) ≡ refused_pairs place (pairs_in ls)
-  pub long : at + length (packed (pairs_in (drop i ls))) ≡ place + length (packed (pairs_in ls))
-
-module _ {ls : List Lent} {place i at : ℕ} (s : Sofar ls place i at) (d : Lent) (h : i < length ls) where
-  abbrev q : Pair
-  q = pair_in (get_or ls i d)
-
-  due : pairs_in (drop i ls) ≡ q ∷ pairs_in (drop (i + 1) ls)
-  due = at_drop_more pairs_in ls i d h
-
-  now_left : or_else (wrong_pair (pairs_in (take i ls)) at q) (refused_from (pairs_in (take i ls) ++ q ∷ []) (after_pair at q) (pairs_in (drop (i + 1) ls))) ≡ refused_pairs place (pairs_in ls)
-  now_left = ap (refused_from (pairs_in (take i ls)) at) (sym due) ∙ s.left
-
-  pub at_wrong : (r : Refusal) (n : ℕ) → Err r ≡ verdict (wrong_pair (pairs_in (take i ls)) at q) (after_pair at q) → Err r ≡ verdict (refused_pairs place (pairs_in ls)) n
-  at_wrong r n w = let wrong = verdict_err (wrong_pair (pairs_in (take i ls)) at q) (after_pair at q) r w in rw (← now_left, wrong)
-
-  pub goes_on : (n : ℕ) → Ok n ≡ verdict (wrong_pair (pairs_in (take i ls)) at q) (after_pair at q) → n ≤ at + 182 → length (take i ls) < 64 → Sofar ls place (i + 1) n
-  goes_on n w near few =
-      let right = verdict_ok (wrong_pair (pairs_in (take i ls)) at q) (after_pair at q) n w in
-      let taken = ap pairs_in (take_more ls i d h) ∙ map_push pair_in (take i ls) (get_or ls i d) in
-      let long = packed_more q (pairs_in (drop (i + 1) ls)) in
-      record {
-        few = omega (arith, length-take-le i ls (omega arith));
-        from = omega (arith, s.from, right.1);
-        near = omega (arith, s.near);
-        left = rw (taken, right.1) (rw right.0 at now_left);
-        long = omega (arith, s.long, right.1, ap (λ l. length (packed l)) due);
-      }
 
 -- what is so of a pair that is not refused, and that such a pair is not
 parts : (p k l e : ℕ) (g t : Bool) → cond {A = Option Refusal} g (cond (ltb l 64) (cond t (Some (plain 26 p)) (cond (leb k 160) None (Some (plain 24 e)))) (Some (plain 25 p))) (Some (plain 23 p)) ≡ None → (g ≡ true) × (l < 64) × (t ≡ false) × (k ≤ 160)
@@ -123,3 +94,12 @@ refused_or_good_lem p qs = record {
   good = λ h. let is = sound qs [] p (omega arith) tt h in record { few = omega (arith, is.0); pairs = is.1; distinct = is.2 };
   taken = λ g. complete qs [] p (omega (arith, g.few)) g.pairs g.distinct;
 }
+
+-- the length of each part of a good record fits two bytes
+pub short_parts : (ls : List Lent) (i : ℕ) (d : Lent) → i < length ls → All GoodPair (pairs_in ls) → (length (get_or ls i d).name.now < 65536) × (length (get_or ls i d).value.now < 65536)
+short_parts ls i d h good =
+    let inner : i < length (pairs_in ls) = omega (arith, length-map ls pair_in) in
+    let is = subst GoodPair (get_or-map pair_in ls i d (pair_in d) h) (All-get_or GoodPair (pairs_in ls) i (pair_in d) inner good) in
+    let name = good_short (get_or ls i d).name.now is.0 in
+    let value = is.1 in
+    (omega arith, omega arith)

@@ -4,4 +4,3 @@ pub mod Fields
 pub mod Judging
 pub mod Agreement
 pub mod Laws
-pub mod Putting
