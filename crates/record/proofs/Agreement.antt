@@ -1,16 +1,15 @@
 -- Reader and writer agree. Assumes nothing.
-use Rattle.std.proofs.Common.{◌≡◌, ℕ, zero, suc, ◌+◌, ◌<◌, ◌≤◌, Bool, true, false, cond, leb, List, [], ◌∷◌, ◌++◌, length, take, drop, Some, None, Ok, Err, Option, sym, refl, ap, subst, ◌∙◌, append_assoc, append-nil, arith}
+use Rattle.std.proofs.Common.{◌≡◌, ℕ, zero, suc, ◌+◌, ◌<◌, ◌≤◌, Bool, true, false, cond, leb, List, [], ◌∷◌, ◌++◌, length, drop, Some, None, Ok, Err, Option, sym, refl, ap, subst, ◌∙◌, append_assoc, append-nil, arith}
 use Rattle.std.proofs.lemmas.List.{drop_at, length-append, length_push}
 use Rattle.std.proofs.lemmas.Bool.{lt-ltb, le-ltb, ne_eqb}
-use Rattle.std.proofs.lemmas.Bool.Decides.{nat_tests}
 use Rattle.fault.specs.declared.fault.Fault.{Fault}
 use Rattle.fault.specs.declared.fault.Fault.TheVariants.{BadRecordName, RecordValueTooLong, TooManyNames, NameTwice}
 use Rattle.fault.specs.Refusal.{Refusal, plain}
 use Rattle.record.specs.declared.field.Head.TheVariants.{Name}
 use Rattle.record.specs.Names.{good_name}
-use Rattle.record.specs.Format.{Pair, field, packed, Good, Stands}
-use Rattle.record.specs.Reading.{Answer, found, refused, faulty, body, value_of, on_head, on_value, named, with_value, with_name, reads, read_at}
-use Rattle.record.specs.Writing.{after_pair, wrong_pair, or_else, refused_from, refused_pairs, verdict}
+use Rattle.record.specs.Format.{Pair, field, packed, Stands}
+use Rattle.record.specs.Reading.{Answer, found, refused, faulty, on_head, on_value, named, reads, read_at}
+use Rattle.record.specs.Writing.{after_pair, or_else, refused_from, refused_pairs}
 use Rattle.record.specs.Law.{Agrees, ReaderAndWriterAgree}
 use Rattle.record.proofs.Fields.{body_field, past_field, head_written, head_end, value_written}
 use Rattle.record.proofs.Turns.{reads_end}

@@ -1,11 +1,11 @@
 -- Fields as they are written and as they are judged. Assumes nothing.
-use Rattle.std.proofs.Common.{◌≡◌, ℕ, ◌+◌, ◌*◌, ◌/◌, ◌%◌, ◌<◌, ◌≤◌, true, cond, ◌&&◌, ltb, leb, List, [], ◌∷◌, ◌++◌, length, take, drop, Some, None, Ok, Err, Option, refl, ap, ◌∙◌, sym, arith}
+use Rattle.std.proofs.Common.{◌≡◌, ℕ, ◌+◌, ◌*◌, ◌/◌, ◌%◌, ◌<◌, ◌≤◌, true, cond, leb, List, [], ◌∷◌, ◌++◌, length, take, drop, Some, None, Ok, Err, Option, refl, ap, ◌∙◌, sym, arith}
 use Rattle.std.proofs.lemmas.List.{take_at, drop_at, drop-drop, length-append, length-take-le, take-append-drop}
-use Rattle.std.proofs.lemmas.Bool.{le-leb, cond-true, and_parts, ltb-true}
+use Rattle.std.proofs.lemmas.Bool.{le-leb, cond-true}
 use Rattle.std.proofs.lemmas.Bool.Decides.{nat_tests}
 use Rattle.fault.specs.declared.fault.Fault.TheVariants.{BadRecordName, RecordValueTooLong}
 use Rattle.record.specs.declared.field.Head.TheVariants.{Name, End}
-use Rattle.record.specs.Names.{lower, tail_bytes, good_name}
+use Rattle.record.specs.Names.{good_name}
 use Rattle.record.specs.Format.{field}
 use Rattle.record.specs.Reading.{split, body, judged_head, judged_value, head_of, value_of}
 

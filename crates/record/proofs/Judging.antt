@@ -1,8 +1,8 @@
 -- Pairs that are judged before they are written. Assumes nothing.
-use Rattle.std.proofs.Common.{◌≡◌, ℕ, ◌+◌, ◌-◌, ◌*◌, ◌<◌, ◌≤◌, Bool, true, false, cond, ◌||◌, ltb, leb, List, [], ◌∷◌, ◌++◌, length, get_or, take, drop, Some, None, Ok, Err, All, Option, sym, refl, ap, ◌∙◌, subst, ⊎_elim, append_assoc, append-nil, arith}
+use Rattle.std.proofs.Common.{◌≡◌, ℕ, ◌+◌, ◌<◌, ◌≤◌, Bool, true, false, cond, ◌||◌, ltb, leb, List, [], ◌∷◌, ◌++◌, length, get_or, take, drop, Some, None, Ok, Err, All, Option, sym, refl, ap, ◌∙◌, subst, ⊎_elim, append_assoc, append-nil, arith}
 use Rattle.std.specs.Str.{bytes_eq}
 use Rattle.std.specs.List.{list_any}
-use Rattle.std.proofs.lemmas.List.{at_drop_more, take_more, map_push, get_or-map, length_push, length-map, length-append, length-take-le}
+use Rattle.std.proofs.lemmas.List.{at_drop_more, get_or-map, length_push, length-map, length-append}
 use Rattle.std.proofs.lemmas.List.Elements.{All-nil, All-cons, All-head, All-tail, All-push, All-get_or}
 use Rattle.std.proofs.lemmas.Slice.Eq.{bytes_eq-Decides}
 use Rattle.std.proofs.lemmas.Bool.{cases_Bool, or_from, or_parts}
@@ -12,7 +12,7 @@ use Rattle.record.specs.declared.writer.Pair.{Pair as Lent}
 use Rattle.record.specs.Names.{good_name}
 use Rattle.record.specs.Format.{Pair, field, packed, Distinct, GoodPair}
 use Rattle.record.specs.Reading.{named}
-use Rattle.record.specs.Writing.{pair_in, pairs_in, after_pair, wrong_pair, or_else, refused_from, refused_pairs, verdict}
+use Rattle.record.specs.Writing.{pair_in, pairs_in, after_pair, wrong_pair, or_else, refused_from, verdict}
 use Rattle.record.specs.Law.{RefusedOrGood}
 use Rattle.record.proofs.Fields.{good_short}
 
