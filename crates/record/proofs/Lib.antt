@@ -1,4 +1,4 @@
-pub mod Steps
+pub mod Spans
 pub mod Turns
 pub mod Fields
 pub mod Judging

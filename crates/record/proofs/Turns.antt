@@ -9,7 +9,7 @@ use Rattle.record.specs.declared.field.Head.TheVariants.{Name, End}
 use Rattle.record.specs.Format.{Pair}
 use Rattle.record.specs.Reading.{Answer, found, faulty, body, head_of, value_of, named, with_value, reads}
 use Rattle.record.specs.Answers.{pair_of, pairs_of, value_span, Lies}
-use Rattle.record.proofs.Steps.{span_named}
+use Rattle.record.proofs.Spans.{span_named}
 
 module _ (ps : List Pair) (p : ℕ) (bs : List ℕ) where
   pub reads_end : (room : ℕ) → head_of p bs ≡ Ok End → reads room ps p bs ≡ found ps p (p + 3)

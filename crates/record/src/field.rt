@@ -2,7 +2,7 @@
 ghost use Rattle.std.specs.Prelude.{◌≡◌, ◌+◌, ◌≤◌, length, IfOk};
 ghost use Rattle.record.specs.Names.{tail_bytes, good_name};
 ghost use Rattle.record.specs.Tags.{byte_of, IsByteOf};
-ghost use Rattle.record.specs.Reading.{split, judged_field, head_of, value_of, HeadLies};
+ghost use Rattle.record.specs.Reading.{split, IsFieldOf, head_of, value_of, HeadLies};
 
 use fault::fault::{Fault, MAX_VALUE};
 
@@ -80,7 +80,7 @@ pub(crate) fn is_name(name: &[u8]) -> bool
 
 // The field at `place`, whose bytes begin with it.
 pub fn split_field(bytes: &[u8], place: usize) -> Result<Field, Fault>
-    ensures is { judged_field place (split bytes.now) result }
+    ensures is { IsFieldOf place (split bytes.now) result }
     ensures lies { IfOk result (λ field. 3 + field.len ≤ length bytes.now) }
 {
     let [tag, high, low, rest @ ..] = bytes else {
@@ -90,10 +90,8 @@ pub fn split_field(bytes: &[u8], place: usize) -> Result<Field, Fault>
     if len > rest.len() {
         return Err(Fault::FieldCutShort { place });
     }
-    match Tag::try_from(*tag) {
-        Ok(tag) => Ok(Field { tag, len }),
-        Err(NoTag) => Err(Fault::UnknownTag { place }),
-    }
+    let tag = Tag::try_from(*tag).map_err(|_| Fault::UnknownTag { place })?;
+    Ok(Field { tag, len })
 }
 
 // The field at `place`, whose bytes begin with it, where a name or the end is due.

@@ -98,14 +98,18 @@ pub fn record(input: &[u8], place: usize) -> shape::Record
 {
     match read_from(input, place) {
         Ok(Some(pairs)) => {
-            let entries = pairs.entries;
+            let Pairs {
+                entries,
+                count,
+                end,
+            } = pairs;
             shape::Record {
                 state: State::Found,
-                count: pairs.count,
+                count,
                 entries,
-                end: pairs.end,
-                next: pairs.end + 3,
-                fault: Fault::FieldCutShort { place: pairs.end },
+                end,
+                next: end + 3,
+                fault: Fault::FieldCutShort { place: end },
             }
         }
         Ok(None) => blank(State::End, Fault::FieldCutShort { place: 0 }),
