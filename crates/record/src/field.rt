@@ -9,9 +9,9 @@ use fault::fault::{Fault, MAX_VALUE};
 // What a field is.
 #[derive(Clone, Copy, PartialEq, Debug)]
 pub enum Tag {
-    Name,
-    Value,
-    End,
+    Name = 1,
+    Value = 2,
+    End = 3,
 }
 
 // A byte that is no tag.
@@ -22,11 +22,7 @@ impl From<Tag> for u8 {
     ghost from_gives = { λ tag byte. byte ≡ byte_of tag };
 
     fn from(tag: Tag) -> u8 {
-        match tag {
-            Tag::Name => 1,
-            Tag::Value => 2,
-            Tag::End => 3,
-        }
+        tag as u8
     }
 }
 
@@ -72,6 +68,7 @@ fn all_tail(bytes: &[u8]) -> bool
         .all(|byte| matches!(byte, b'a'..=b'z' | b'0'..=b'9' | b'_'))
 }
 
+// Whether the bytes are a name: one of a to z, then at most fifteen of a to z, 0 to 9 and _.
 pub(crate) fn is_name(name: &[u8]) -> bool
     ensures { result ≡ good_name name.now }
 {

@@ -34,7 +34,6 @@ fn blank(state: State, fault: Fault) -> shape::Record
 }
 
 // The pairs of a record: the first `count` entries, and the place of the end's tag after them.
-#[derive(Clone, Copy)]
 struct Pairs {
     entries: [Entry; MOST],
     count: usize,
@@ -89,8 +88,8 @@ fn read_from(input: &[u8], place: usize) -> Result<Option<Pairs>, Fault>
     Ok(Some(pairs))
 }
 
-#[tactic(auto, using(crate::proofs::Laws::law_of))]
 // The record at a place of the input: its pairs, or that the input ends there, or why it is refused.
+#[tactic(auto, using(crate::proofs::Laws::law_of))]
 pub fn record(input: &[u8], place: usize) -> shape::Record
     ensures reads { answer input.now result ≡ read_at input.now place }
     ensures within { Within (length input.now) result }
