@@ -1,5 +1,5 @@
 -- Pairs that are judged before they are written. Assumes nothing.
-use Rattle.std.proofs.Common.{◌≡◌, ℕ, ◌+◌, ◌<◌, ◌≤◌, Bool, true, false, cond, ◌||◌, ltb, leb, List, [], ◌∷◌, ◌++◌, length, get_or, take, drop, Some, None, Ok, Err, All, Option, sym, refl, ap, ◌∙◌, subst, ⊎_elim, append_assoc, append-nil, arith}
+use Rattle.std.proofs.Common.{◌≡◌, ℕ, ◌+◌, ◌<◌, ◌≤◌, true, false, ◌||◌, List, [], ◌∷◌, ◌++◌, length, get_or, take, drop, Some, None, Ok, Err, All, Option, sym, refl, ap, ◌∙◌, subst, ⊎_elim, append_assoc, append-nil, arith}
 use Rattle.std.specs.Str.{bytes_eq}
 use Rattle.std.specs.List.{list_any}
 use Rattle.std.proofs.lemmas.List.{at_drop_more, get_or-map, length_push, length-map, length-append}
@@ -7,7 +7,7 @@ use Rattle.std.proofs.lemmas.List.Elements.{All-nil, All-cons, All-head, All-tai
 use Rattle.std.proofs.lemmas.Slice.Eq.{bytes_eq-Decides}
 use Rattle.std.proofs.lemmas.Bool.{cases_Bool, or_from, or_parts}
 use Rattle.std.proofs.lemmas.Bool.Decides.{nat_tests, not_from_Decides}
-use Rattle.fault.specs.Refusal.{Refusal, plain}
+use Rattle.fault.specs.Refusal.{Refusal}
 use Rattle.record.specs.declared.writer.Pair.{Pair as Lent}
 use Rattle.record.specs.Names.{good_name}
 use Rattle.record.specs.Format.{Pair, field, packed, Distinct, GoodPair}
@@ -38,13 +38,11 @@ first_wrong ls i at e n d r whole h left judged = go (wrong_pair (pairs_in (take
 pub packed_more : (q : Pair) (qs : List Pair) → length (packed (q ∷ qs)) ≡ 3 + length q.0 + (3 + length q.1) + length (packed qs)
 packed_more q qs = omega (arith, length-append q.0 (field 2 q.1 ++ packed qs), length-append q.1 (packed qs))
 
--- what is so of a pair that is not refused, and that such a pair is not
-parts : (p k l e : ℕ) (g t : Bool) → cond {A = Option Refusal} g (cond (ltb l 64) (cond t (Some (plain 26 p)) (cond (leb k 160) None (Some (plain 24 e)))) (Some (plain 25 p))) (Some (plain 23 p)) ≡ None → (g ≡ true) × (l < 64) × (t ≡ false) × (k ≤ 160)
-parts p k l e g t h = (grind (arith, nat_tests), grind (arith, nat_tests), grind (arith, nat_tests), grind (arith, nat_tests))
+-- what is so of a pair that is not refused
+pair_parts : (ps : List Pair) (p : ℕ) (q : Pair) → wrong_pair ps p q ≡ None → (good_name q.0 ≡ true) × (length ps < 64) × (named q.0 ps ≡ false) × (length q.1 ≤ 160)
+pair_parts ps p q h = (grind (arith, nat_tests), grind (arith, nat_tests), grind (arith, nat_tests), grind (arith, nat_tests))
 
-pub pair_parts : (ps : List Pair) (p : ℕ) (q : Pair) → wrong_pair ps p q ≡ None → (good_name q.0 ≡ true) × (length ps < 64) × (named q.0 ps ≡ false) × (length q.1 ≤ 160)
-pair_parts ps p q h = parts p (length q.1) (length ps) (p + (3 + length q.0)) (good_name q.0) (named q.0 ps) h
-
+-- and such a pair is not refused
 right_pair : (ps : List Pair) (p : ℕ) (q : Pair) → good_name q.0 ≡ true → length ps < 64 → named q.0 ps ≡ false → length q.1 ≤ 160 → wrong_pair ps p q ≡ None
 right_pair ps p q good few new short = grind (arith, nat_tests)
 

@@ -34,6 +34,7 @@ fn blank(state: State, fault: Fault) -> shape::Record
 }
 
 // The pairs of a record: the first `count` entries, and the place of the end's tag after them.
+// Their number stands beside the table as in the answer that they become, a plain struct by a rule of the project.
 struct Pairs {
     entries: [Entry; MOST],
     count: usize,
