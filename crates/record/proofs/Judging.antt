@@ -1,19 +1,20 @@
 -- Pairs that are judged before they are written. Assumes nothing.
-use Rattle.std.proofs.Common.{◌≡◌, ℕ, ◌+◌, ◌-◌, ◌*◌, ◌<◌, ◌≤◌, Bool, true, false, cond, ◌||◌, ltb, leb, List, [], ◌∷◌, ◌++◌, length, get_or, take, drop, Some, None, Ok, Err, All, Option, sym, refl, ap, ◌∙◌, subst, append_assoc, append-nil, arith}
+use Rattle.std.proofs.Common.{◌≡◌, ℕ, ◌+◌, ◌<◌, ◌≤◌, true, false, ◌||◌, List, [], ◌∷◌, ◌++◌, length, get_or, take, drop, Some, None, Ok, Err, All, Option, sym, refl, ap, ◌∙◌, subst, ⊎_elim, append_assoc, append-nil, arith}
 use Rattle.std.specs.Str.{bytes_eq}
 use Rattle.std.specs.List.{list_any}
-use Rattle.std.proofs.lemmas.List.{at_drop_more, at_drop_all, take_more, take-map, drop-map, map_push, length_push, length-take-le}
-use Rattle.std.proofs.lemmas.List.Elements.{All-nil, All-cons, All-head, All-tail}
-use Rattle.std.proofs.lemmas.Bool.{le-leb, lt-leb, lt-ltb, le-ltb, cond-true, cond-false}
-use Rattle.std.proofs.lemmas.Bool.Decides.{nat_tests}
-use Rattle.fault.specs.Refusal.{Refusal, plain}
+use Rattle.std.proofs.lemmas.List.{at_drop_more, get_or-map, length_push, length-map, length-append}
+use Rattle.std.proofs.lemmas.List.Elements.{All-nil, All-cons, All-head, All-tail, All-push, All-get_or}
+use Rattle.std.proofs.lemmas.Slice.Eq.{bytes_eq-Decides}
+use Rattle.std.proofs.lemmas.Bool.{cases_Bool, or_from, or_parts}
+use Rattle.std.proofs.lemmas.Bool.Decides.{nat_tests, not_from_Decides}
+use Rattle.fault.specs.Refusal.{Refusal}
 use Rattle.record.specs.declared.writer.Pair.{Pair as Lent}
 use Rattle.record.specs.Names.{good_name}
-use Rattle.record.specs.Format.{Pair, packed, Distinct, GoodPair}
+use Rattle.record.specs.Format.{Pair, field, packed, Distinct, GoodPair}
 use Rattle.record.specs.Reading.{named}
-use Rattle.record.specs.Writing.{pair_in, pairs_in, after_pair, wrong_pair, or_else, refused_from, refused_pairs, verdict}
+use Rattle.record.specs.Writing.{pair_in, pairs_in, after_pair, wrong_pair, or_else, refused_from, verdict}
 use Rattle.record.specs.Law.{RefusedOrGood}
-use Rattle.record.proofs.Laws.{distinct_new, distinct_push, packed_more}
+use Rattle.record.proofs.Fields.{good_short}
 
 -- whether some pair that is lent has the name
 pub named_in : (wanted : List ℕ) (ls : List Lent) → named wanted (pairs_in ls) ≡ list_any (λ l. bytes_eq l.name.now wanted) ls
@@ -23,106 +24,49 @@ named_in wanted (l ∷ ls) = ap (λ b. bytes_eq l.name.now wanted || b) (named_i
 -- what a verdict was
 pub verdict_ok : (w : Option Refusal) (e n : ℕ) → Ok n ≡ verdict w e → (w ≡ None) × (n ≡ e)
 verdict_ok None e n h = (refl, cc)
-verdict_ok (Some r) e n h = absurd (let z : ◌≡◌ {A = ℕ} 0 1 = cc in omega arith)
+verdict_ok (Some r) e n h = cc
 
-pub verdict_err : (w : Option Refusal) (e : ℕ) (r : Refusal) → Err r ≡ verdict w e → w ≡ Some r
-verdict_err None e r h = absurd (let z : ◌≡◌ {A = ℕ} 0 1 = cc in omega arith)
-verdict_err (Some s) e r h = let same : s ≡ r = cc in ap (λ x. Some x) same
+-- the first pair at fault decides
+pub first_wrong : (ls : List Lent) (i at e n : ℕ) (d : Lent) (r : Refusal) (whole : Option Refusal) → i < length ls → refused_from (pairs_in (take i ls)) at (pairs_in (drop i ls)) ≡ whole → Err r ≡ verdict (wrong_pair (pairs_in (take i ls)) at (pair_in (get_or ls i d))) e → Err r ≡ verdict whole n
+first_wrong ls i at e n d r whole h left judged = go (wrong_pair (pairs_in (take i ls)) at (pair_in (get_or ls i d))) judged (ap (refused_from (pairs_in (take i ls)) at) (sym (at_drop_more pairs_in ls i d h)) ∙ left)
+  where
+    go : (w : Option Refusal) → Err r ≡ verdict w e → or_else w (refused_from (pairs_in (take i ls) ++ pair_in (get_or ls i d) ∷ []) (after_pair at (pair_in (get_or ls i d))) (pairs_in (drop (i + 1) ls))) ≡ whole → Err r ≡ verdict whole n
+    go None judged left = cc
+    go (Some s) judged left = rw (← left) judged
 
--- a list of pairs that are lent, pair by pair
-module _ (ls : List Lent) (i : ℕ) (d : Lent) (h : i < length ls) where
-  pub drop_in : drop i (pairs_in ls) ≡ pair_in (get_or ls i d) ∷ drop (i + 1) (pairs_in ls)
-  drop_in = drop-map pair_in i ls ∙ at_drop_more pairs_in ls i d h ∙ ap (λ l. pair_in (get_or ls i d) ∷ l) (sym (drop-map pair_in (i + 1) ls))
-
-  pub take_in : take (i + 1) (pairs_in ls) ≡ take i (pairs_in ls) ++ pair_in (get_or ls i d) ∷ []
-  take_in = take-map pair_in (i + 1) ls ∙ ap pairs_in (take_more ls i d h) ∙ map_push pair_in (take i ls) (get_or ls i d) ∙ ap (λ l. l ++ pair_in (get_or ls i d) ∷ []) (sym (take-map pair_in i ls))
-
--- The first i pairs are taken, and the next would stand at a place.
-pub record Sofar (ls : List Lent) (place i at : ℕ) : Type 0 where
-  pub few : i ≤ 64
-  pub from : place ≤ at
-  pub near : at ≤ place + 182 * i
-  pub left : refused_from (take i (pairs_in ls)) at (drop i (pairs_in ls)) ≡ refused_pairs place (pairs_in ls)
-  pub long : at + length (packed (drop i (pairs_in ls))) ≡ place + length (packed (pairs_in ls))
-
-module _ {ls : List Lent} {place i at : ℕ} (s : Sofar ls place i at) where
-  module _ (d : Lent) (h : i < length ls) where
-    abbrev q : Pair
-    q = pair_in (get_or ls i d)
-
-    -- the rest of the pairs, after the next
-    abbrev rest : Option Refusal
-    rest = refused_from (take i (pairs_in ls) ++ q ∷ []) (after_pair at q) (drop (i + 1) (pairs_in ls))
-
-    now_left : refused_pairs place (pairs_in ls) ≡ or_else (wrong_pair (take i (pairs_in ls)) at q) rest
-    now_left = sym s.left ∙ ap (refused_from (take i (pairs_in ls)) at) (drop_in ls i d h)
-
-    -- the earlier pairs, as a part of the slice has them
-    earlier : pairs_in (take i ls) ≡ take i (pairs_in ls)
-    earlier = sym (take-map pair_in i ls)
-
-    pub at_wrong : (r : Refusal) (n : ℕ) → Err r ≡ verdict (wrong_pair (pairs_in (take i ls)) at (pair_in (get_or ls i d))) (after_pair at (pair_in (get_or ls i d))) → Err r ≡ verdict (refused_pairs place (pairs_in ls)) n
-    at_wrong r n w =
-        let wrong = verdict_err _ (after_pair at q) r (w ∙ ap (λ l. verdict (wrong_pair l at q) (after_pair at q)) earlier) in
-        ap (λ o. verdict o n) (sym (now_left ∙ ap (λ o. or_else o rest) wrong))
-
-    pub goes_on : (n : ℕ) → Ok n ≡ verdict (wrong_pair (pairs_in (take i ls)) at (pair_in (get_or ls i d))) (after_pair at (pair_in (get_or ls i d))) → n ≤ at + 182 → length (take i ls) < 64 → Sofar ls place (i + 1) n
-    goes_on n w near few =
-        let right = verdict_ok _ (after_pair at q) n (w ∙ ap (λ l. verdict (wrong_pair l at q) (after_pair at q)) earlier) in
-        let none = right.0 in
-        let taken = length-take-le i ls (omega arith) in
-        let next = ap (λ l. length (packed l)) (drop_in ls i d h) in
-        let long = packed_more q (drop (i + 1) (pairs_in ls)) in
-        record {
-          few = omega arith;
-          from = omega (arith, s.from, right.1);
-          near = omega (arith, s.near);
-          left = (λ j. refused_from (take_in ls i d h j) (right.1 j) (drop (i + 1) (pairs_in ls))) ∙ sym (now_left ∙ ap (λ o. or_else o rest) none);
-          long = omega (arith, s.long, right.1);
-        }
-
-  pub at_last : length ls ≤ i → Ok (at + 3 - place) ≡ verdict (refused_pairs place (pairs_in ls)) (length (packed (pairs_in ls)))
-  at_last h =
-      let none : drop i (pairs_in ls) ≡ [] = drop-map pair_in i ls ∙ at_drop_all pairs_in ls i h in
-      let ended : refused_pairs place (pairs_in ls) ≡ None = sym s.left ∙ ap (refused_from (take i (pairs_in ls)) at) none in
-      let long : at + 3 - place ≡ length (packed (pairs_in ls)) = omega (arith, s.long, ap (λ l. length (packed l)) none) in
-      (λ j. verdict (sym ended j) (long j))
+-- the length of a packed record, pair by pair
+pub packed_more : (q : Pair) (qs : List Pair) → length (packed (q ∷ qs)) ≡ 3 + length q.0 + (3 + length q.1) + length (packed qs)
+packed_more q qs = omega (arith, length-append q.0 (field 2 q.1 ++ packed qs), length-append q.1 (packed qs))
 
 -- what is so of a pair that is not refused
-parts : (p k l e : ℕ) (g t : Bool) → cond {A = Option Refusal} g (cond (ltb l 64) (cond t (Some (plain 26 p)) (cond (leb k 160) None (Some (plain 24 e)))) (Some (plain 25 p))) (Some (plain 23 p)) ≡ None → (g ≡ true) × (l < 64) × (t ≡ false) × (k ≤ 160)
-parts p k l e g t h =
-    let good : g ≡ true = grind (arith, nat_tests) in
-    let room : l < 64 = grind (arith, nat_tests) in
-    let new : t ≡ false = grind (arith, nat_tests) in
-    let short : k ≤ 160 = grind (arith, nat_tests) in
-    (good, room, new, short)
+pair_parts : (ps : List Pair) (p : ℕ) (q : Pair) → wrong_pair ps p q ≡ None → (good_name q.0 ≡ true) × (length ps < 64) × (named q.0 ps ≡ false) × (length q.1 ≤ 160)
+pair_parts ps p q h = (grind (arith, nat_tests), grind (arith, nat_tests), grind (arith, nat_tests), grind (arith, nat_tests))
 
-pub pair_parts : (ps : List Pair) (p : ℕ) (q : Pair) → wrong_pair ps p q ≡ None → (good_name q.0 ≡ true) × (length ps < 64) × (named q.0 ps ≡ false) × (length q.1 ≤ 160)
-pair_parts ps p q h = parts p (length q.1) (length ps) (p + (3 + length q.0)) (good_name q.0) (named q.0 ps) h
-
--- why a pair is refused, test by test
-module _ (ps : List Pair) (p : ℕ) (q : Pair) where
-  pub wrong_name : good_name q.0 ≡ false → wrong_pair ps p q ≡ Some (plain 23 p)
-  wrong_name bad = cond-false _ _ _ bad
-
-  module _ (good : good_name q.0 ≡ true) where
-    pub wrong_many : 64 ≤ length ps → wrong_pair ps p q ≡ Some (plain 25 p)
-    wrong_many many = cond-true _ _ _ good ∙ cond-false _ _ _ (le-ltb (length ps) 64 many)
-
-    module _ (few : length ps < 64) where
-      pub wrong_twice : named q.0 ps ≡ true → wrong_pair ps p q ≡ Some (plain 26 p)
-      wrong_twice twice = cond-true _ _ _ good ∙ cond-true _ _ _ (lt-ltb (length ps) 64 few) ∙ cond-true _ _ _ twice
-
-      module _ (new : named q.0 ps ≡ false) where
-        pub wrong_value : 160 < length q.1 → wrong_pair ps p q ≡ Some (plain 24 (p + (3 + length q.0)))
-        wrong_value long = cond-true _ _ _ good ∙ cond-true _ _ _ (lt-ltb (length ps) 64 few) ∙ cond-false _ _ _ new ∙ cond-false _ _ _ (lt-leb (length q.1) 160 long)
-
-        pub right_pair : length q.1 ≤ 160 → wrong_pair ps p q ≡ None
-        right_pair short = cond-true _ _ _ good ∙ cond-true _ _ _ (lt-ltb (length ps) 64 few) ∙ cond-false _ _ _ new ∙ cond-true _ _ _ (le-leb (length q.1) 160 short)
+-- and such a pair is not refused
+right_pair : (ps : List Pair) (p : ℕ) (q : Pair) → good_name q.0 ≡ true → length ps < 64 → named q.0 ps ≡ false → length q.1 ≤ 160 → wrong_pair ps p q ≡ None
+right_pair ps p q good few new short = grind (arith, nat_tests)
 
 or_none : (w more : Option Refusal) → or_else w more ≡ None → (w ≡ None) × (more ≡ None)
 or_none None more h = (refl, h)
-or_none (Some r) more h = absurd (let z : ◌≡◌ {A = ℕ} 0 1 = cc in omega arith)
+or_none (Some r) more h = cc
+
+all_mid : {X : Type 0} (P : X → Type 0) (xs : List X) (y : X) (ys : List X) → All P (xs ++ y ∷ ys) → P y
+all_mid P [] y ys h = All-head P y ys h
+all_mid P (x ∷ xs) y ys h = all_mid P xs y ys (All-tail P x (xs ++ y ∷ ys) h)
+
+-- a name that comes later is not among the earlier ones
+distinct_new : (ps : List Pair) (q : Pair) (qs : List Pair) → Distinct (ps ++ q ∷ qs) → named q.0 ps ≡ false
+distinct_new [] q qs d = refl
+distinct_new (p ∷ ps) q qs d =
+    let apart = all_mid (λ x. p.0 ≡ x.0 → ⊥) ps q qs d.0 in
+    or_from _ _ (⊎_elim (λ (t : bytes_eq p.0 q.0 ≡ true). absurd (apart ((bytes_eq-Decides p.0 q.0).0 t))) (λ f. f) (cases_Bool (bytes_eq p.0 q.0))) (distinct_new ps q qs d.1)
+
+-- and one that is not keeps them distinct
+pub distinct_push : (ps : List Pair) (q : Pair) → Distinct ps → named q.0 ps ≡ false → Distinct (ps ++ q ∷ [])
+distinct_push [] q d e = (All-nil (λ x. q.0 ≡ x.0 → ⊥), tt)
+distinct_push (p ∷ ps) q d e =
+    let parts = or_parts (bytes_eq p.0 q.0) (named q.0 ps) e in
+    (All-push (λ x. p.0 ≡ x.0 → ⊥) ps q d.0 (not_from_Decides _ (bytes_eq-Decides p.0 q.0) parts.0), distinct_push ps q d.1 parts.1)
 
 -- pairs that are not refused are good
 sound : (qs ps : List Pair) (p : ℕ) → length ps ≤ 64 → Distinct ps → refused_from ps p qs ≡ None → (length ps + length qs ≤ 64) × All GoodPair qs × Distinct (ps ++ qs)
@@ -141,10 +85,19 @@ complete (q ∷ qs) ps p few good d =
     let first = All-head GoodPair q qs good in
     let here = right_pair ps p q first.0 (omega arith) (distinct_new ps q qs d) first.1 in
     let pushed = length_push ps q in
-    ap (λ w. or_else w (refused_from (ps ++ q ∷ []) (after_pair p q) qs)) here ∙ complete qs (ps ++ q ∷ []) (after_pair p q) (omega arith) (All-tail GoodPair q qs good) (subst Distinct (sym (append_assoc ps (q ∷ []) qs)) d)
+    rw here (complete qs (ps ++ q ∷ []) (after_pair p q) (omega arith) (All-tail GoodPair q qs good) (subst Distinct (sym (append_assoc ps (q ∷ []) qs)) d))
 
 pub refused_or_good_lem : RefusedOrGood
 refused_or_good_lem p qs = record {
   good = λ h. let is = sound qs [] p (omega arith) tt h in record { few = omega (arith, is.0); pairs = is.1; distinct = is.2 };
   taken = λ g. complete qs [] p (omega (arith, g.few)) g.pairs g.distinct;
 }
+
+-- the length of each part of a good record fits two bytes
+pub short_parts : (ls : List Lent) (i : ℕ) (d : Lent) → i < length ls → All GoodPair (pairs_in ls) → (length (get_or ls i d).name.now < 65536) × (length (get_or ls i d).value.now < 65536)
+short_parts ls i d h good =
+    let inner : i < length (pairs_in ls) = omega (arith, length-map ls pair_in) in
+    let is = subst GoodPair (get_or-map pair_in ls i d (pair_in d) h) (All-get_or GoodPair (pairs_in ls) i (pair_in d) inner good) in
+    let name = good_short (get_or ls i d).name.now is.0 in
+    let value = is.1 in
+    (omega arith, omega arith)

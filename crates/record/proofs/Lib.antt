@@ -1,7 +1,6 @@
-pub mod Steps
+pub mod Spans
 pub mod Turns
 pub mod Fields
-pub mod Laws
 pub mod Judging
-pub mod Putting
 pub mod Agreement
+pub mod Laws

@@ -1,38 +1,35 @@
 -- One turn of reading a record. Assumes nothing.
-use Rattle.std.proofs.Common.{◌≡◌, ℕ, zero, suc, ◌+◌, ◌-◌, ◌<◌, ◌≤◌, true, false, List, [], ◌∷◌, ◌++◌, Ok, Err, length, take, drop, set, is_some, All, sym, ap, ◌∙◌, subst, arith}
-use Rattle.std.proofs.lemmas.List.{drop-drop, take_more_set, map_push, length-set, length-drop}
+use Rattle.std.proofs.Common.{◌≡◌, ℕ, zero, suc, ◌+◌, ◌-◌, ◌<◌, ◌≤◌, true, false, List, Ok, Err, length, take, drop, set, is_some, All, sym, ap, ◌∙◌, subst, arith}
+use Rattle.std.proofs.lemmas.List.{drop-drop, take_more_set, map_push, length-set}
 use Rattle.std.proofs.lemmas.List.Elements.{All-push}
 use Rattle.record.specs.declared.shape.Entry.{Entry}
 use Rattle.fault.specs.declared.fault.Fault.{Fault}
-use Rattle.fault.specs.declared.fault.Fault.TheVariants.{TooManyNames, NameTwice}
+use Rattle.fault.specs.declared.fault.Fault.TheVariants.{NameTwice}
 use Rattle.record.specs.declared.field.Head.TheVariants.{Name, End}
 use Rattle.record.specs.Format.{Pair}
 use Rattle.record.specs.Reading.{Answer, found, faulty, body, head_of, value_of, named, with_value, reads}
 use Rattle.record.specs.Answers.{pair_of, pairs_of, value_span, Lies}
-use Rattle.record.proofs.Steps.{span_named}
+use Rattle.record.proofs.Spans.{span_named}
 
+-- what the field at a place comes to
 module _ (ps : List Pair) (p : ℕ) (bs : List ℕ) where
   pub reads_end : (room : ℕ) → head_of p bs ≡ Ok End → reads room ps p bs ≡ found ps p (p + 3)
   reads_end zero e = rw e
   reads_end (suc room) e = rw e
 
-  pub reads_bad : (room : ℕ) (f : Fault) → head_of p bs ≡ Err f → reads room ps p bs ≡ faulty f
+  reads_bad : (room : ℕ) (f : Fault) → head_of p bs ≡ Err f → reads room ps p bs ≡ faulty f
   reads_bad zero f e = rw e
   reads_bad (suc room) f e = rw e
 
-  module _ (n : ℕ) (e : head_of p bs ≡ Ok (Name n)) where
-    pub reads_full : reads 0 ps p bs ≡ faulty (TooManyNames p)
-    reads_full = rw e
+  module _ (n : ℕ) (e : head_of p bs ≡ Ok (Name n)) (room : ℕ) where
+    reads_twice : named (body n bs) ps ≡ true → reads (suc room) ps p bs ≡ faulty (NameTwice p)
+    reads_twice t = rw (e, t)
 
-    module _ (room : ℕ) where
-      pub reads_twice : named (body n bs) ps ≡ true → reads (suc room) ps p bs ≡ faulty (NameTwice p)
-      reads_twice t = rw (e, t)
+    reads_bad_value : (f : Fault) → named (body n bs) ps ≡ false → value_of (p + (3 + n)) (drop (3 + n) bs) ≡ Err f → reads (suc room) ps p bs ≡ faulty f
+    reads_bad_value f t w = rw (e, t, w)
 
-      pub reads_bad_value : (f : Fault) → named (body n bs) ps ≡ false → value_of (p + (3 + n)) (drop (3 + n) bs) ≡ Err f → reads (suc room) ps p bs ≡ faulty f
-      reads_bad_value f t w = rw (e, t, w)
-
-      pub reads_pair : (v : ℕ) → named (body n bs) ps ≡ false → value_of (p + (3 + n)) (drop (3 + n) bs) ≡ Ok v → reads (suc room) ps p bs ≡ with_value (reads room) ps p bs n v
-      reads_pair v t w = rw (e, t, w)
+    reads_pair : (v : ℕ) → named (body n bs) ps ≡ false → value_of (p + (3 + n)) (drop (3 + n) bs) ≡ Ok v → reads (suc room) ps p bs ≡ with_value (reads room) ps p bs n v
+    reads_pair v t w = rw (e, t, w)
 
 -- The first count entries are read, the next head is at a place of the input, and the whole comes to an answer.
 pub record Sofar (input : List ℕ) (whole : Answer) (es : List Entry) (count at : ℕ) : Type 0 where

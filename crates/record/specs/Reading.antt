@@ -1,5 +1,5 @@
 -- What reading a record at a place answers. Assumes nothing.
-use Rattle.std.specs.Prelude.{◌≡◌, ◌≢◌, ℕ, zero, suc, ◌+◌, ◌*◌, ◌≤◌, Bool, cond, List, [], ◌∷◌, ◌++◌, length, take, drop, Some, None, Ok, Err, Option, Result, MatchResult, ◌==◌, nat_le, nat_lt}
+use Rattle.std.specs.Prelude.{◌≡◌, ℕ, zero, suc, ◌+◌, ◌*◌, ◌≤◌, Bool, cond, List, [], ◌∷◌, ◌++◌, length, take, drop, Some, None, Ok, Err, Option, Result, MatchResult, ◌==◌, nat_le, nat_lt}
 use Rattle.std.specs.List.{list_any}
 use Rattle.std.specs.Str.{bytes_eq}
 use Rattle.fault.specs.declared.fault.Fault.{Fault}
@@ -9,7 +9,7 @@ use Rattle.record.specs.declared.field.Head.{Head}
 use Rattle.record.specs.declared.field.Head.TheVariants.{Name, End}
 use Rattle.fault.specs.Refusal.{Refusal, refusal_of}
 use Rattle.record.specs.Names.{good_name}
-use Rattle.record.specs.Tags.{byte_of}
+use Rattle.record.specs.Tags.{byte_of, IsNoTag}
 use Rattle.record.specs.Format.{Pair}
 
 -- The field at the front of some bytes, by its tag and its length; none where it is cut short.
@@ -23,10 +23,10 @@ split (t ∷ h ∷ l ∷ bs) = cond (nat_le (h * 256 + l) (length bs)) (Some (t,
 abbrev pub body : ℕ → List ℕ → List ℕ
 body n bs = take n (drop 3 bs)
 
--- What is said of a field at the place p that was split off: it has a tag, or why there is none.
-abbrev pub judged_field : ℕ → Option (ℕ × ℕ) → Result Field Fault → Type 0
-judged_field p None r = r ≡ Err (FieldCutShort p)
-judged_field p (Some f) r = MatchResult r (λ field. (byte_of field.tag ≡ f.0) × (field.len ≡ f.1)) (λ fault. (fault ≡ UnknownTag p) × (f.0 ≢ 1) × (f.0 ≢ 2) × (f.0 ≢ 3))
+-- The result is the field at the place p that was split off, or why it is none.
+abbrev pub IsFieldOf : ℕ → Option (ℕ × ℕ) → Result Field Fault → Type 0
+IsFieldOf p None r = r ≡ Err (FieldCutShort p)
+IsFieldOf p (Some f) r = MatchResult r (λ field. (byte_of field.tag ≡ f.0) × (field.len ≡ f.1)) (λ fault. (fault ≡ UnknownTag p) × IsNoTag f.0)
 
 -- A field at the place p, at the front of bs, where a name or the end is due.
 abbrev pub judged_head : ℕ → List ℕ → Option (ℕ × ℕ) → Result Head Fault

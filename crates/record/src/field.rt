@@ -2,16 +2,16 @@
 ghost use Rattle.std.specs.Prelude.{◌≡◌, ◌+◌, ◌≤◌, length, IfOk};
 ghost use Rattle.record.specs.Names.{tail_bytes, good_name};
 ghost use Rattle.record.specs.Tags.{byte_of, IsByteOf};
-ghost use Rattle.record.specs.Reading.{split, judged_field, head_of, value_of, HeadLies};
+ghost use Rattle.record.specs.Reading.{split, IsFieldOf, head_of, value_of, HeadLies};
 
 use fault::fault::{Fault, MAX_VALUE};
 
 // What a field is.
 #[derive(Clone, Copy, PartialEq, Debug)]
 pub enum Tag {
-    Name,
-    Value,
-    End,
+    Name = 1,
+    Value = 2,
+    End = 3,
 }
 
 // A byte that is no tag.
@@ -22,11 +22,7 @@ impl From<Tag> for u8 {
     ghost from_gives = { λ tag byte. byte ≡ byte_of tag };
 
     fn from(tag: Tag) -> u8 {
-        match tag {
-            Tag::Name => 1,
-            Tag::Value => 2,
-            Tag::End => 3,
-        }
+        tag as u8
     }
 }
 
@@ -72,6 +68,7 @@ fn all_tail(bytes: &[u8]) -> bool
         .all(|byte| matches!(byte, b'a'..=b'z' | b'0'..=b'9' | b'_'))
 }
 
+// Whether the bytes are a name: one of a to z, then at most fifteen of a to z, 0 to 9 and _.
 pub(crate) fn is_name(name: &[u8]) -> bool
     ensures { result ≡ good_name name.now }
 {
@@ -80,7 +77,7 @@ pub(crate) fn is_name(name: &[u8]) -> bool
 
 // The field at `place`, whose bytes begin with it.
 pub fn split_field(bytes: &[u8], place: usize) -> Result<Field, Fault>
-    ensures is { judged_field place (split bytes.now) result }
+    ensures is { IsFieldOf place (split bytes.now) result }
     ensures lies { IfOk result (λ field. 3 + field.len ≤ length bytes.now) }
 {
     let [tag, high, low, rest @ ..] = bytes else {
@@ -90,10 +87,8 @@ pub fn split_field(bytes: &[u8], place: usize) -> Result<Field, Fault>
     if len > rest.len() {
         return Err(Fault::FieldCutShort { place });
     }
-    match Tag::try_from(*tag) {
-        Ok(tag) => Ok(Field { tag, len }),
-        Err(NoTag) => Err(Fault::UnknownTag { place }),
-    }
+    let tag = Tag::try_from(*tag).map_err(|_| Fault::UnknownTag { place })?;
+    Ok(Field { tag, len })
 }
 
 // The field at `place`, whose bytes begin with it, where a name or the end is due.

@@ -34,7 +34,7 @@ fn blank(state: State, fault: Fault) -> shape::Record
 }
 
 // The pairs of a record: the first `count` entries, and the place of the end's tag after them.
-#[derive(Clone, Copy)]
+// Their number stands beside the table as in the answer that they become, a plain struct by a rule of the project.
 struct Pairs {
     entries: [Entry; MOST],
     count: usize,
@@ -89,8 +89,8 @@ fn read_from(input: &[u8], place: usize) -> Result<Option<Pairs>, Fault>
     Ok(Some(pairs))
 }
 
-#[tactic(auto, using(crate::proofs::Laws::law_of))]
 // The record at a place of the input: its pairs, or that the input ends there, or why it is refused.
+#[tactic(auto, using(crate::proofs::Laws::law_of))]
 pub fn record(input: &[u8], place: usize) -> shape::Record
     ensures reads { answer input.now result ≡ read_at input.now place }
     ensures within { Within (length input.now) result }
@@ -98,14 +98,18 @@ pub fn record(input: &[u8], place: usize) -> shape::Record
 {
     match read_from(input, place) {
         Ok(Some(pairs)) => {
-            let entries = pairs.entries;
+            let Pairs {
+                entries,
+                count,
+                end,
+            } = pairs;
             shape::Record {
                 state: State::Found,
-                count: pairs.count,
+                count,
                 entries,
-                end: pairs.end,
-                next: pairs.end + 3,
-                fault: Fault::FieldCutShort { place: pairs.end },
+                end,
+                next: end + 3,
+                fault: Fault::FieldCutShort { place: end },
             }
         }
         Ok(None) => blank(State::End, Fault::FieldCutShort { place: 0 }),

@@ -31,6 +31,7 @@ pub const MOST: usize = 64;
 
 // A record that is found has its first `count` entries, the place of its end's tag and the place after it.
 // One that is refused has the fault. What the state does not name is blank.
+// A flag stands beside the table, and no `Option` or `Result` is round it: an answer is plain data by a rule of the project.
 #[derive(Clone, Copy)]
 pub struct Record {
     pub state: State,

@@ -1,7 +1,8 @@
 // Records that are written.
 use crate::cases::Expected;
 use crate::{Tally, stands};
-use record::writer::{Pair, Unwritten, write_record};
+use fault::Failure;
+use record::writer::{Pair, write_record};
 
 const HI: Pair<'static> = Pair {
     name: b"a",
@@ -27,7 +28,7 @@ const LONG: Pair<'static> = Pair {
 fn refuses(rt: &HostRuntime, pairs: &[Pair<'_>], number: u8, place: usize) -> anyhow::Result<bool> {
     let mut file = b"..".to_vec(rt.alloc())?;
     let refused = match write_record(&mut file, pairs) {
-        Err(Unwritten::Refused(fault)) => fault.number() == number && fault.place() == place,
+        Err(Failure::Refused(fault)) => fault.number() == number && fault.place() == place,
         _ => false,
     };
     Ok(refused && file.as_slice() == b"..".as_slice())

@@ -1,5 +1,5 @@
-use Rattle.record.proofs.Agreement as agreement
+use Rattle.record.proofs.Agreement.{reader_and_writer_agree_lem}
 use Rattle.record.proofs.promise.reader_and_writer_agree.Goals as goal
 
 pub returns : goal.returns
-returns c = agreement.reader_and_writer_agree_lem
+returns c = reader_and_writer_agree_lem

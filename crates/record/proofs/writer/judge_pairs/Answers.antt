@@ -1,18 +1,8 @@
-use Rattle.std.proofs.Common.{arith}
 use Rattle.std.proofs.lemmas.Result.{err_from_is_err_and}
-use Rattle.record.proofs.Judging.{at_wrong, goes_on, at_last}
+use Rattle.record.proofs.Judging.{first_wrong}
 use Rattle.record.proofs.writer.judge_pairs.Goals as goal
 
 pub returns-in_err-at : goal.returns-in_err-at
 returns-in_err-at c =
     let p = err_from_is_err_and c.from_residual.result c.from_residual.ensures.1 in
-    rw (p.1, p.2) (at_wrong c.loop-i.invariant _ c.loop-i-test.true _ _ c.in_err-at.ensures.judges)
-
-pub loop-i-preserved : goal.loop-i-preserved
-loop-i-preserved c = goes_on c.loop-i.invariant _ c.loop-i-test.true c.in_ok-at.at c.in_ok-at.ensures.judges c.in_ok-at.ensures.near.0 c.in_ok-at.ensures.near.1
-
-pub overflow_sub-result : goal.overflow_sub-result
-overflow_sub-result c = omega (arith, c.loop-i.invariant.from)
-
-pub returns : goal.returns
-returns c = at_last c.loop-i.invariant c.loop-i-test.false
+    rw (p.1, p.2) (first_wrong c.args.pairs.now c.loop-i.i _ _ _ _ _ _ c.loop-i-test.true c.loop-i.invariant.left c.in_err-at.ensures.judges)
