@@ -3,7 +3,7 @@ use Rattle.std.specs.Prelude.{◌≢◌, ◌≡◌, ℕ, ◌≤◌, Result, Matc
 use Rattle.host.specs.declared.effect.Refused.{Refused}
 use Rattle.host.specs.declared.kind.UnknownKind.{UnknownKind}
 
--- The result is the context with this number, or a refusal where the contexts are as many or fewer.
+-- The result is the context with this number, or a refusal of a number that is not below how many contexts there are.
 abbrev pub IsContext : {C : Type 0} → (C → ℕ) → ℕ → ℕ → Result C Refused → Type 0
 IsContext number count n r = MatchResult r (λ context. number context ≡ n) (λ _. count ≤ n)
 

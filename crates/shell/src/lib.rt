@@ -152,6 +152,7 @@ fn after_backslash(back: Context, byte: u8) -> Result<Move, Refused>
 }
 
 // Between single quotes every byte but 00 and the quote stands for itself.
+// A text of SQL has the same arms, but a function for both would say each again in its contract.
 fn at_single_quoted(byte: u8) -> Result<Move, Refused>
     ensures { answered result ≡ stepped in_single byte }
 {
