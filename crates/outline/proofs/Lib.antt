@@ -4,4 +4,4 @@ pub mod Laid
 pub mod Items
 pub mod Visited
 pub mod Sights
-pub mod Bytes
+pub mod Turns

@@ -24,7 +24,7 @@ record Passed (m : Meaning) (p c : ℕ) (item : Item) (rest : Lexed) (next : ℕ
 
 -- what was decided where there is a context after an item
 decided : {A : Type 0} (o : Option A) (r : Report) (f : A → ℕ) (next : ℕ) → Ok next ≡ decide o (Err r) (λ x. Ok (f x)) → (x : A) × (o ≡ Some x) × (f x ≡ next)
-decided None r f next e = let z : ◌≡◌ {A = ℕ} 0 1 = cc in absurd (omega arith)
+decided None r f next e = cc
 decided (Some x) r f next e = (x, refl, cc)
 
 passed : (m : Meaning) (p c : ℕ) (item : Item) (rest : Lexed) (next : ℕ) → Begins p (then item p rest) → Walks m (then item p rest) c → Ok next ≡ passing m c item p → Passed m p c item rest next
@@ -56,8 +56,8 @@ met_more m s t x c d vs ws whole r w e pushed is =
     let q = passed m p c x.item rest d begun (subst (λ l. Walks m l c) read w) e in
     let more : map sight_of ws ++ visited_from m rest d ≡ whole =
     ap (λ l. map sight_of l ++ visited_from m rest d) pushed
-        ∙ ap (λ l. l ++ visited_from m rest d) (map_push sight_of vs v)
-        ∙ append_assoc (map sight_of vs) (sight_of v ∷ []) (visited_from m rest d)
-        ∙ ap (λ l. map sight_of vs ++ l) (sym q.meets ∙ ap (λ l. visited_from m l c) (sym read))
-        ∙ is in
+    ∙ ap (λ l. l ++ visited_from m rest d) (map_push sight_of vs v)
+    ∙ append_assoc (map sight_of vs) (sight_of v ∷ []) (visited_from m rest d)
+    ∙ ap (λ l. map sight_of vs ++ l) (sym q.meets ∙ ap (λ l. visited_from m l c) (sym read))
+    ∙ is in
     subst (λ b. Walks m (lexed_from b t.at) d × (map sight_of ws ++ visited_from m (lexed_from b t.at) d ≡ whole)) (sym r.same) (q.walks, more)

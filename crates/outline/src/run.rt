@@ -41,8 +41,7 @@ impl Run {
         ensures { OnOk result (state_of self.new ≡ close kind (state_of self.old)) }
     {
         if let Some(kind) = kind {
-            let heap = self.heap;
-            let value = self.current.take().unwrap_or_else(|| Vec::new(heap));
+            let value = self.current.take().unwrap_or_else(|| Vec::new(self.heap));
             self.closed.push(Token { kind, value })?;
         }
         Ok(())
@@ -52,17 +51,15 @@ impl Run {
     fn open(&mut self)
         ensures { state_of self.new ≡ add [] (state_of self.old) }
     {
-        let heap = self.heap;
-        self.current.get_or_insert_with(|| Vec::new(heap));
+        self.current.get_or_insert_with(|| Vec::new(self.heap));
     }
 
     // Adds a symbol to the open token.
     fn add(&mut self, symbol: Symbol) -> Result<(), AllocError>
         ensures { OnOk result (state_of self.new ≡ add (symbol_of symbol ∷ []) (state_of self.old)) }
     {
-        let heap = self.heap;
         self.current
-            .get_or_insert_with(|| Vec::new(heap))
+            .get_or_insert_with(|| Vec::new(self.heap))
             .push(symbol)?;
         Ok(())
     }
