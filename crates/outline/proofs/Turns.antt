@@ -1,5 +1,5 @@
 -- A hole of a run over what is walked: it is not refused, and the run goes on after it.
-use Rattle.std.proofs.Common.{◌≡◌, ℕ, suc, ◌+◌, List, Some, None, Option, sym, ap, subst, add-one, MatchOption}
+use Rattle.std.proofs.Common.{◌≡◌, ℕ, suc, ◌+◌, List, Some, None, Option, ap, subst, add-one, MatchOption}
 use Rattle.std.proofs.lemmas.Option.{MatchOption-at_some, MatchOption-at_none}
 use Rattle.host.specs.Meaning.{Meaning, chain}
 use Rattle.host.specs.Run.{State, run_hole, run}

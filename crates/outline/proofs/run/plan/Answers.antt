@@ -1,9 +1,9 @@
-use Rattle.std.proofs.Common.{◌≡◌, ◌+◌, ◌<◌, ◌≤◌, map, length, Some, None, Ok, Err, vec_items, Result, sym, ap, ◌∙◌, subst, arith, rules}
+use Rattle.std.proofs.Common.{◌≡◌, ◌<◌, ◌≤◌, map, length, Some, None, Ok, Err, vec_items, Result, sym, ap, ◌∙◌, subst, arith, rules}
 use Rattle.fault.specs.declared.flaw.Flaw.{Flaw}
 use Rattle.fault.specs.declared.failure.Failure.{Failure}
 use Rattle.fault.specs.declared.failure.Failure.TheVariants.{Refused, NoMemory}
 use Rattle.host.specs.Run.{run, run_hole, plan}
-use Rattle.template.specs.Lexing.{lexed_from, hole, Reads}
+use Rattle.template.specs.Lexing.{lexed_from, Reads}
 use Rattle.template.specs.Judging.{Verdict, verdict}
 use Rattle.template.proofs.Read.{reads_hole}
 use Rattle.outline.specs.Telling.{Tells}
