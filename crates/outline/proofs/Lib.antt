@@ -4,7 +4,4 @@ pub mod Laid
 pub mod Items
 pub mod Visited
 pub mod Sights
-pub mod States
-pub mod Bytes
-pub mod Stops
 pub mod Turns

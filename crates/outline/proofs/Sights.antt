@@ -1,5 +1,5 @@
 -- One item more of what a run meets.
-use Rattle.std.proofs.Common.{◌≡◌, ℕ, List, [], ◌∷◌, ◌++◌, map, Some, None, Ok, Err, Option, sym, refl, ap, ◌∙◌, subst, append_assoc, arith}
+use Rattle.std.proofs.Common.{◌≡◌, ℕ, List, [], ◌∷◌, ◌++◌, map, Some, None, Ok, Err, Option, sym, refl, ap, ◌∙◌, subst, append_assoc}
 use Rattle.std.proofs.lemmas.List.{map_push}
 use Rattle.std.proofs.lemmas.Option.{MatchOption-at_some}
 use Rattle.host.specs.declared.effect.Effect.{Effect}
@@ -7,13 +7,15 @@ use Rattle.host.specs.Meaning.{Meaning}
 use Rattle.fault.specs.Refusal.{Report, report}
 use Rattle.template.specs.declared.item.Item.{Item}
 use Rattle.template.specs.declared.item.Item.TheVariants.{Literal, Hole}
-use Rattle.template.specs.Lexing.{Lexed, hole, lexed_from, then}
+use Rattle.template.specs.declared.items.Items.{Items}
+use Rattle.template.specs.declared.items.Placed.{Placed}
+use Rattle.template.specs.Lexing.{Lexed, hole, lexed_from, then, Reads}
 use Rattle.template.specs.Judging.{crossing, decide}
 use Rattle.outline.specs.declared.visit.Visit.{Visit}
 use Rattle.outline.specs.Visits.{Sight, sight, literal, gap, met_of, sight_of, passing}
 use Rattle.outline.proofs.Walks.{Walks}
 use Rattle.outline.proofs.Places.{Begins, begins_at}
-use Rattle.outline.proofs.Visited.{visited_from, visited}
+use Rattle.outline.proofs.Visited.{visited_from}
 
 -- what comes of an item that is passed: it is met, and the walk goes on after it
 record Passed (m : Meaning) (p c : ℕ) (item : Item) (rest : Lexed) (next : ℕ) : Type 0 where
@@ -22,7 +24,7 @@ record Passed (m : Meaning) (p c : ℕ) (item : Item) (rest : Lexed) (next : ℕ
 
 -- what was decided where there is a context after an item
 decided : {A : Type 0} (o : Option A) (r : Report) (f : A → ℕ) (next : ℕ) → Ok next ≡ decide o (Err r) (λ x. Ok (f x)) → (x : A) × (o ≡ Some x) × (f x ≡ next)
-decided None r f next e = let z : ◌≡◌ {A = ℕ} 0 1 = cc in absurd (omega arith)
+decided None r f next e = cc
 decided (Some x) r f next e = (x, refl, cc)
 
 passed : (m : Meaning) (p c : ℕ) (item : Item) (rest : Lexed) (next : ℕ) → Begins p (then item p rest) → Walks m (then item p rest) c → Ok next ≡ passing m c item p → Passed m p c item rest next
@@ -43,15 +45,19 @@ passed m p c (Hole h) rest next at w e =
     }
 
 -- what is met so far and what is left give the whole, one item on
-pub met_more : (m : Meaning) (t : List ℕ) (v : Visit) (next d : ℕ) (vs ws : List Visit) → then v.item v.place (lexed_from t next) ≡ lexed_from t v.place → Walks m (lexed_from t v.place) v.context → Ok d ≡ passing m v.context v.item v.place → ws ≡ vs ++ (v ∷ []) → map sight_of vs ++ visited_from m (lexed_from t v.place) v.context ≡ visited m t → Walks m (lexed_from t next) d × (map sight_of ws ++ visited_from m (lexed_from t next) d ≡ visited m t)
-met_more m t v next d vs ws read w e pushed whole =
-    let p = v.place in
-    let rest = lexed_from t next in
-    let q = passed m p v.context v.item rest d (subst (Begins p) (sym read) (begins_at t p)) (subst (λ l. Walks m l v.context) (sym read) w) e in (
-      q.walks,
-      ap (λ l. map sight_of l ++ visited_from m rest d) pushed
-          ∙ ap (λ l. l ++ visited_from m rest d) (map_push sight_of vs v)
-          ∙ append_assoc (map sight_of vs) (sight_of v ∷ []) (visited_from m rest d)
-          ∙ ap (λ l. map sight_of vs ++ l) (sym q.meets ∙ ap (λ l. visited_from m l v.context) read)
-          ∙ whole,
-    )
+pub met_more : (m : Meaning) (s t : Items) (x : Placed) (c d : ℕ) (vs ws : List Visit) (whole : List Sight) → Reads s (Some (Ok x)) t → Walks m (lexed_from s.template.now s.at) c → Ok d ≡ passing m c x.item x.place → ws ≡ vs ++ (record { place = x.place; context = c; item = x.item } ∷ []) → map sight_of vs ++ visited_from m (lexed_from s.template.now s.at) c ≡ whole → Walks m (lexed_from t.template.now t.at) d × (map sight_of ws ++ visited_from m (lexed_from t.template.now t.at) d ≡ whole)
+met_more m s t x c d vs ws whole r w e pushed is =
+    let p = x.place in
+    let bs = s.template.now in
+    let rest = lexed_from bs t.at in
+    let v : Visit = record { place = p; context = c; item = x.item } in
+    let read : lexed_from bs s.at ≡ then x.item p rest = sym r.reads in
+    let begun : Begins p (then x.item p rest) = subst (Begins p) read (subst (λ q. Begins p (lexed_from bs q)) r.onward.0 (begins_at bs p)) in
+    let q = passed m p c x.item rest d begun (subst (λ l. Walks m l c) read w) e in
+    let more : map sight_of ws ++ visited_from m rest d ≡ whole =
+    ap (λ l. map sight_of l ++ visited_from m rest d) pushed
+    ∙ ap (λ l. l ++ visited_from m rest d) (map_push sight_of vs v)
+    ∙ append_assoc (map sight_of vs) (sight_of v ∷ []) (visited_from m rest d)
+    ∙ ap (λ l. map sight_of vs ++ l) (sym q.meets ∙ ap (λ l. visited_from m l c) (sym read))
+    ∙ is in
+    subst (λ b. Walks m (lexed_from b t.at) d × (map sight_of ws ++ visited_from m (lexed_from b t.at) d ≡ whole)) (sym r.same) (q.walks, more)

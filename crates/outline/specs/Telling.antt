@@ -1,9 +1,10 @@
 -- What an outline says, or why there is none.
 use Rattle.std.specs.Prelude.{◌≡◌, Ok, Err, Result}
+use Rattle.fault.specs.declared.flaw.Flaw.{Flaw}
+use Rattle.fault.specs.declared.failure.Failure.{Failure}
+use Rattle.fault.specs.declared.failure.Failure.TheVariants.{Refused, NoMemory}
 use Rattle.fault.specs.Refusal.{flaw_of}
 use Rattle.template.specs.Judging.{Verdict, refused, accepted}
-use Rattle.outline.specs.declared.untold.Untold.{Untold}
-use Rattle.outline.specs.declared.untold.Untold.TheVariants.{Template, NoMemory}
 
 -- The host accepts the template.
 abbrev pub Takes : Verdict → Type 0
@@ -11,7 +12,7 @@ Takes (refused r) = ⊥
 Takes (accepted n bodies) = Unit {0}
 
 -- The template is accepted and the answer has P, or the flaw is the verdict's, or memory ran out, which says nothing.
-abbrev pub Tells : {A : Type 0} → Result A Untold → Verdict → (A → Type 0) → Type 0
+abbrev pub Tells : {A : Type 0} → Result A (Failure Flaw) → Verdict → (A → Type 0) → Type 0
 Tells (Ok x) v P = Takes v × P x
-Tells (Err (Template f)) v P = v ≡ refused (flaw_of f)
+Tells (Err (Refused f)) v P = v ≡ refused (flaw_of f)
 Tells (Err NoMemory) v P = Unit {0}

@@ -3,10 +3,8 @@
 
 mod run;
 pub mod token;
-pub mod untold;
 pub mod visit;
 
 pub use run::plan;
 pub use token::{Symbol, Token};
-pub use untold::Untold;
 pub use visit::{Visit, visits};
