@@ -136,6 +136,7 @@ pub fn plan<H: Host>(heap: Global, template: &[u8], host: &H) -> Result<Vec<Toke
 {
     survey(template, host)?;
     let mut run = Run::new(heap);
+    // The number of the next hole: literals have none, so the numbers of the items do not serve.
     let mut holes = 0;
     for read in Items::of(template) {
         let Placed { place, item } = read?;
