@@ -65,7 +65,7 @@ impl Finished<'_> {
         ensures short { IfOk result (λ n. n ≤ 65280) }
         ensures slate { (ss : Slate) → sheet.now.table.rows ≡ rows_of ss → (told result ≡ weight (printed (H.meaning sheet.now.host) (values_on ss) self.now.template.now (length out.old))) × (out.new ≡ output out.old (printed (H.meaning sheet.now.host) (values_on ss) self.now.template.now (length out.old))) }
     {
-        let _ = surveyed(self.template, sheet.host())?;
+        surveyed(self.template, sheet.host())?;
         self.print_surveyed(sheet, out)
     }
 
