@@ -1,8 +1,6 @@
 -- What the rows of the table keep.
 use Rattle.std.proofs.Common.{◌≡◌, ℕ, zero, suc, ◌-◌, ◌≤◌, true, List, [], ◌∷◌, ◌++◌, length, get_or, drop, set, replicate, Some, None, refl, ap, ◌∙◌, arith, length-take}
 use lib.Seq.{drop-append_seam}
-use native.Mathlib.Nat.{sub-zero}
-use borrow.Rule.Slice.PartMut.{put_mid}
 use Rattle.std.proofs.lemmas.Bool.{le-leb, leb-true, and_parts, and_from}
 use Rattle.std.proofs.lemmas.List.{drop-replicate}
 use Rattle.printer.specs.declared.row.Row.{Row}
@@ -41,13 +39,9 @@ unfolding blank
 fit_blank zero = refl
 fit_blank (suc n) = and_from _ _ none_fits (fit_blank n)
 
--- a value written over the front of a cleared row
-pub written : (v : List ℕ) → length v ≤ 160 → v ++ drop (length v) (replicate 160 0) ≡ v ++ zeros (160 - length v)
-written v h = ap (λ (bs : List ℕ). v ++ bs) (drop-replicate (length v) 160 0 ∙ zeros_is (160 - length v))
-
--- the same, as a write to a part of a slice leaves it
-pub laid : (v ys : List ℕ) → ys ≡ v → length v ≤ 160 → put_mid 0 (length v - 0) (replicate 160 0) ys ≡ v ++ zeros (160 - length v)
-laid v ys e h = simp (e, sub-zero) (written v h)
+-- a value laid over the front of a cleared row
+pub laid : (v ys bs : List ℕ) → ys ≡ v → bs ≡ zeros 160 → ys ++ drop (length v) bs ≡ v ++ zeros (160 - length v)
+laid v ys bs e z = rw (e, z, ← zeros_is 160, drop-replicate {X = ℕ} (length v) 160 0, zeros_is) refl
 
 pub of_zeros : record { len = 0; bytes = replicate 160 0 } ≡ row_of None
 of_zeros = ap (λ (bs : List ℕ). let r : Row = record { len = 0; bytes = bs } in r) (zeros_is 160)

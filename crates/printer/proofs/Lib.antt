@@ -5,7 +5,6 @@ pub mod Flips
 pub mod Spelt
 pub mod Unique
 pub mod Printed
-pub mod Laying
 pub mod Writing
 pub mod Texts
 pub mod Turned

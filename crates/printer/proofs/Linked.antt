@@ -99,8 +99,8 @@ module _ (st : State) (ss : Slate) (h : Holds st ss) where
 pub low_is : (n owed : ℕ) (ss : Slate) → n ≤ 64 → Marks n owed ss → lowest_bit owed ≡ lowest ss
 low_is n owed ss few h = ap lowest_bit h.bits ∙ map_lowest ss (omega (arith, h.count))
 
-pub counted : (n owed : ℕ) (ss : Slate) → n ≤ 64 → Marks n owed ss → (k : Option ℕ) → lowest_bit owed ≡ k → ◌≡◌ {A = ℕ × Option ℕ} (ones owed, k) (how_many ss, lowest ss)
-counted n owed ss few h k e = ap₂ (λ (a : ℕ) (b : Option ℕ). (a, b)) (ap ones h.bits ∙ map_ones ss) (sym e ∙ low_is n owed ss few h)
+pub counted : (n owed : ℕ) (ss : Slate) → n ≤ 64 → Marks n owed ss → ◌≡◌ {A = ℕ × Option ℕ} (ones owed, lowest_bit owed) (how_many ss, lowest ss)
+counted n owed ss few h = ap₂ (λ (a : ℕ) (b : Option ℕ). (a, b)) (ap ones h.bits ∙ map_ones ss) (low_is n owed ss few h)
 
 -- a call that answers by the map and leaves what its answer says
 pub tracks_bind : (st st' : State) (m : Meaning) (bodies : List ℕ) (hole : ℕ) (v : List ℕ) (t : Option Refusal)

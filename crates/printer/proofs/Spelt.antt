@@ -1,5 +1,5 @@
 -- The bytes of a value that a body spells.
-use Rattle.std.proofs.Common.{◌≡◌, ℕ, Bool, true, false, cond, take, is_some, Some, None, sym, refl, ap, ◌∙◌}
+use Rattle.std.proofs.Common.{◌≡◌, ℕ, Bool, true, false, cond, is_some, Some, None, sym, refl, ap, ◌∙◌}
 use Rattle.host.specs.Meaning.{Meaning}
 use Rattle.host.specs.Answers.{bytes_of, spelling_of}
 use Rattle.host.specs.declared.effect.Spelling.{Spelling}

@@ -1,5 +1,5 @@
 -- The two passes of a print, piece by piece: the first measures the text, the second lays it into the output.
-use Rattle.std.specs.Prelude.{◌≡◌, ℕ, ◌+◌, ◌≤◌, Bool, true, false, List, [], ◌∷◌, ◌++◌, length, take, drop, Some, None, Ok, Err, Option, Result, nat_le, nat_lt}
+use Rattle.std.specs.Prelude.{◌≡◌, ℕ, zero, suc, ◌+◌, Bool, true, false, List, [], ◌∷◌, ◌++◌, length, Ok, Err, Result, nat_le, nat_lt}
 use Rattle.host.specs.Meaning.{Meaning, Brackets}
 use Rattle.fault.specs.Refusal.{Refusal, report, of_template}
 use Rattle.template.specs.Lexing.{Lexed, byte, hole, end, fault, lexed_from}
@@ -44,29 +44,17 @@ walked m v t room = walked_by (nat_lt 3584 (length t)) m v t room
 abbrev pub WalksAsPrinted : Meaning → (ℕ → List ℕ) → List ℕ → Type 0
 WalksAsPrinted m v t = (n : ℕ) (bodies : List ℕ) → verdict m t ≡ accepted n bodies → (room : ℕ) → walked m v t room ≡ printed m v t room
 
--- bytes laid over others from a place on
-abbrev pub laid : List ℕ → ℕ → List ℕ → List ℕ
-laid old at w = take at old ++ (w ++ drop (at + length w) old)
+-- bytes laid over others from a place on, as many as there are places for
+abbrev pub overlaid : List ℕ → ℕ → List ℕ → List ℕ
+overlaid [] at w = []
+overlaid (b ∷ bs) (suc at) w = b ∷ overlaid bs at w
+overlaid (b ∷ bs) zero [] = b ∷ bs
+overlaid (b ∷ bs) zero (x ∷ xs) = x ∷ overlaid bs zero xs
 
--- that there is a text, and it fits
-abbrev pub Fits : ℕ → ℕ → Result (List ℕ) Refusal → Type 0
-Fits at room (Ok w) = at + length w ≤ room
-Fits at room (Err r) = ⊥
-
--- bytes, if there are any to lay: that they lie within, where they end, and the output with them
-abbrev pub Lies : ℕ → ℕ → Option (List ℕ) → Type 0
-Lies at room None = ⊥
-Lies at room (Some w) = at + length w ≤ room
-
-abbrev pub end_after : ℕ → Option (List ℕ) → ℕ
-end_after at None = at
-end_after at (Some w) = at + length w
-
-abbrev pub laid_if : List ℕ → ℕ → Option (List ℕ) → List ℕ
-laid_if old at None = old
-laid_if old at (Some w) = laid old at w
+-- a piece that is laid over an output from a place on: where it ends, and the output with it
+abbrev pub onward : ℕ → List ℕ → Result (List ℕ) Refusal → Result (ℕ × List ℕ) Refusal
+onward at out x = after (λ w. (at + length w, overlaid out at w)) x
 
 -- a value between its opener and its closer
-abbrev pub framed : Brackets → Option (List ℕ) → Option (List ℕ)
-framed b None = None
-framed b (Some w) = Some (b.opener ++ (w ++ b.closer))
+abbrev pub framed : Brackets → Result (List ℕ) Refusal → Result (List ℕ) Refusal
+framed b x = after (λ w. b.opener ++ (w ++ b.closer)) x

@@ -19,7 +19,7 @@ use template::survey::Survey;
 pub(crate) fn surveyed<H: Host>(template: &[u8], host: &H) -> Result<Survey, Fault>
     ensures { surveyed_of result ≡ fitting_host (verdict (H.meaning host.now) template.now) }
 {
-    survey(template, host).map_err(|flaw| Fault::Unfit(flaw))
+    survey(template, host).map_err(Fault::Unfit)
 }
 
 // How many bytes of the value come before the first that the body turns away.

@@ -6,9 +6,7 @@ ghost use Rattle.printer.specs.Slate.{Slate, owed_at, how_many, lowest, judge_fi
 
 use crate::finished::Finished;
 use fault::Fault;
-
-// The most holes that a template may have, and so the most bits of the map.
-pub(crate) const MAX_HOLES: usize = 64;
+use template::survey::MAX_HOLES;
 
 // A template that is being filled. A hole is owed until it has a value: hole k is owed where bit k of the map is 1, and
 // the bits from the hole count on are 0.
@@ -83,11 +81,8 @@ impl<'t> Filling<'t> {
         ensures slate { (ss : Slate) → Marks self.now.holes self.now.owed ss → result ≡ (how_many ss, lowest ss) }
     {
         let count = self.owed.count_ones() as usize;
-        if self.owed == 0 {
-            (count, None)
-        } else {
-            (count, Some(self.owed.trailing_zeros() as usize))
-        }
+        let lowest = (self.owed > 0).then_some(self.owed.trailing_zeros() as usize);
+        (count, lowest)
     }
 
     // Whether the filling can be finished: the count of its holes, or 15 with the lowest hole that is owed.
@@ -95,10 +90,11 @@ impl<'t> Filling<'t> {
         ensures value { told result ≡ judged_finish self.now.holes self.now.owed }
         ensures slate { (ss : Slate) → Marks self.now.holes self.now.owed ss → told result ≡ judge_finish_lem (length ss) (lowest ss) }
     {
-        match self.owed().1 {
-            Some(hole) => Err(Fault::StillOwed { hole }),
-            None => Ok(self.holes),
+        let (_, lowest) = self.owed();
+        if let Some(hole) = lowest {
+            return Err(Fault::StillOwed { hole });
         }
+        Ok(self.holes)
     }
 
     // Ends a filling that `judge_finish` accepts: every hole has its value.

@@ -5,6 +5,7 @@ pub mod bind;
 pub mod filling;
 pub mod finished;
 pub mod open;
+mod page;
 pub mod print;
 pub mod promise;
 pub mod row;

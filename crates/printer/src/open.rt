@@ -4,10 +4,11 @@ ghost use Rattle.printer.specs.Calls.{state_of};
 ghost use Rattle.printer.specs.Held.{Holds, opened};
 ghost use Rattle.printer.specs.Slate.{fresh};
 
-use crate::filling::{Filling, MAX_HOLES};
+use crate::filling::Filling;
 use crate::sheet::Sheet;
 use host::Host;
 use template::checked::Checked;
+use template::survey::MAX_HOLES;
 
 // Clears the sheet, and starts a filling of the template in which every hole is owed.
 pub fn open<'t, H: Host>(checked: Checked<'t>, sheet: &mut Sheet<H>) -> Filling<'t>

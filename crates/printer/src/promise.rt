@@ -3,15 +3,11 @@ ghost use Rattle.printer.specs.Held.{OneSlate};
 ghost use Rattle.printer.specs.Promise.{BoundValueReadsBack};
 
 // A filling and its sheet hold one slate at most.
-pub fn one_slate() -> u8
+pub fn one_slate()
     ensures { OneSlate }
-{
-    0
-}
+{}
 
 // A value that is bound to a hole and printed reads back as that value.
-pub fn bound_value_reads_back() -> u8
+pub fn bound_value_reads_back()
     ensures { BoundValueReadsBack }
-{
-    0
-}
+{}

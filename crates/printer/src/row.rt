@@ -1,6 +1,48 @@
 // A row of a sheet: the length and the bytes of a hole's value, with 0 past the length. The table keeps the limits.
+ghost use Rattle.std.specs.Prelude.{◌≡◌, ◌≤◌, length, Some, None};
+ghost use Rattle.printer.specs.Rows.{row_of, value_in};
+
+use fault::fault::MAX_VALUE;
+
 #[derive(Clone, Copy)]
 pub struct Row {
     pub len: usize,
-    pub bytes: [u8; 160],
+    pub bytes: [u8; MAX_VALUE],
+}
+
+impl Row {
+    // A row that holds nothing.
+    pub(crate) fn empty() -> Row
+        ensures { result ≡ row_of None }
+    {
+        Row {
+            len: 0,
+            bytes: [0; MAX_VALUE],
+        }
+    }
+
+    // The value that the row holds.
+    pub(crate) fn value(&self) -> &[u8]
+        requires { self.now.len ≤ 160 }
+        ensures { result.now ≡ value_in self.now }
+    {
+        &self.bytes[..self.len]
+    }
+
+    // Makes the row hold the value.
+    pub(crate) fn write(&mut self, value: &[u8])
+        requires { length value.now ≤ 160 }
+        ensures { self.new ≡ row_of (Some value.now) }
+    {
+        *self = Row::empty();
+        self.bytes[..value.len()].copy_from_slice(value);
+        self.len = value.len();
+    }
+
+    // Makes the row hold nothing.
+    pub(crate) fn wipe(&mut self)
+        ensures { self.new ≡ row_of None }
+    {
+        *self = Row::empty();
+    }
 }

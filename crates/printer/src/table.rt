@@ -3,44 +3,13 @@ ghost use Rattle.std.specs.Prelude.{◌≡◌, ◌<◌, ◌≤◌, true, length,
 ghost use Rattle.printer.specs.Rows.{fit, row_of, blank, value_at};
 
 use crate::row::Row;
-
-// How many rows a sheet has: one for each hole that a template may have.
-const ROWS: usize = 64;
+use template::survey::MAX_HOLES;
 
 #[derive(Drop)]
 pub struct Table {
-    rows: [Row; 64],
+    rows: [Row; MAX_HOLES],
     ghost fits: { fit rows ≡ true },
     ghost all: { length rows ≡ 64 },
-}
-
-// A row that holds nothing.
-fn empty() -> Row
-    ensures { result ≡ row_of None }
-{
-    Row {
-        len: 0,
-        bytes: [0; 160],
-    }
-}
-
-// Makes the row hold the value.
-fn write(row: &mut Row, value: &[u8])
-    requires { length value.now ≤ 160 }
-    ensures { row.new ≡ row_of (Some value.now) }
-{
-    let mut bytes = [0; 160];
-    let len = value.len();
-    let front = &mut bytes[0..len];
-    front.copy_from_slice(value);
-    *row = Row { len, bytes };
-}
-
-// Makes the row hold nothing.
-fn wipe(row: &mut Row)
-    ensures { row.new ≡ row_of None }
-{
-    *row = empty();
 }
 
 impl Table {
@@ -48,8 +17,10 @@ impl Table {
     pub(crate) fn new() -> Table
         ensures { result.rows ≡ blank 64 }
     {
-        let row = empty();
-        Table { rows: [row; 64] }
+        let row = Row::empty();
+        Table {
+            rows: [row; MAX_HOLES],
+        }
     }
 
     // Sets all lengths and bytes to 0.
@@ -66,7 +37,7 @@ impl Table {
         ensures { self.new.rows ≡ slice_set self.old.rows hole (row_of (Some value.now)) }
     {
         let mut rows = self.rows;
-        write(&mut rows[hole], value);
+        rows[hole].write(value);
         *self = Table { rows };
     }
 
@@ -76,7 +47,7 @@ impl Table {
         ensures { self.new.rows ≡ slice_set self.old.rows hole (row_of None) }
     {
         let mut rows = self.rows;
-        wipe(&mut rows[hole]);
+        rows[hole].wipe();
         *self = Table { rows };
     }
 
@@ -84,10 +55,9 @@ impl Table {
     pub(crate) fn value(&self, hole: usize) -> &[u8]
         ensures { result.now ≡ value_at self.now.rows hole }
     {
-        if hole >= ROWS {
+        let Some(row) = self.rows.get(hole) else {
             return &[];
-        }
-        let row = &self.rows[hole];
-        &row.bytes[0..row.len]
+        };
+        row.value()
     }
 }

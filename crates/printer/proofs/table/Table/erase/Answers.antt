@@ -6,5 +6,5 @@ use Rattle.printer.proofs.table.Table.erase.Goals as goal
 pub invariant_of-self : goal.invariant_of-self
 invariant_of-self c =
     let rows = c.args.self.now.rows in
-    let row = c.wipe.new.row in
+    let row = c.wipe.new.self in
     record { fits = fit_set rows c.args.hole row c.args.self.now.fits (ap fits_row c.wipe.ensures ∙ none_fits); all = length-set rows c.args.hole row ∙ c.args.self.now.all }

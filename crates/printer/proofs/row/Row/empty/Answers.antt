@@ -1,5 +1,5 @@
 use Rattle.printer.proofs.Laid.{of_zeros}
-use Rattle.printer.proofs.table.empty.Goals as goal
+use Rattle.printer.proofs.row.Row.empty.Goals as goal
 
 pub returns : goal.returns
 returns c = of_zeros

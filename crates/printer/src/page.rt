@@ -1,0 +1,75 @@
+// How far a text has come, and how it is written.
+ghost use Rattle.std.specs.Prelude.{◌≡◌, ◌+◌, ◌*◌, ◌^◌, ◌<◌, ◌≤◌, length};
+ghost use Rattle.host.specs.Answers.{brackets_of};
+ghost use Rattle.fault.specs.Refusal.{told};
+ghost use Rattle.printer.specs.Passes.{spelt_out, overlaid, framed, onward};
+ghost use Rattle.printer.specs.Printing.{after};
+
+use fault::Fault;
+use host::Host;
+use host::effect::Recipe;
+
+// The text ends at `end`, also where the output does not reach so far.
+#[derive(Clone, Copy, Default)]
+pub struct Page {
+    pub end: usize,
+}
+
+impl Page {
+    // Adds bytes, and writes as many of them as the output has places for.
+    pub fn put(&mut self, bytes: &[u8], out: &mut [u8])
+        requires { self.old.end < 2 ^ 32 }
+        ensures end { self.new.end ≡ self.old.end + length bytes.now }
+        ensures output { out.new ≡ overlaid out.old self.old.end bytes.now }
+    {
+        if self.end < out.len() {
+            let room = bytes.len().min(out.len() - self.end);
+            out[self.end..self.end + room].copy_from_slice(&bytes[..room]);
+        }
+        self.end += bytes.len();
+    }
+
+    // Adds the value of a hole as its body spells it.
+    pub fn put_value<H: Host>(
+        &mut self,
+        host: &H,
+        body: u8,
+        value: &[u8],
+        hole: usize,
+        out: &mut [u8],
+    ) -> Result<(), Fault>
+        requires start { self.old.end < 2 ^ 31 }
+        requires short { length value.now ≤ 160 }
+        ensures bound { self.new.end ≤ self.old.end + 960 }
+        ensures text { after (λ done. (self.new.end, out.new)) (told result) ≡ onward self.old.end out.old (spelt_out (H.meaning host.now) body hole 0 value.now) }
+    {
+        for (place, byte) in value.iter().enumerate() {
+            let spelling = host.spelling(body, *byte);
+            if !spelling.spells {
+                return Err(Fault::StoredByteTurnedAway { hole, place });
+            }
+            self.put(spelling.bytes.as_slice(), out);
+        }
+        Ok(())
+    }
+
+    // Adds a hole with its value: its opener, the value as its body spells it, and its closer.
+    pub fn put_hole<H: Host>(
+        &mut self,
+        host: &H,
+        recipe: Recipe,
+        value: &[u8],
+        hole: usize,
+        out: &mut [u8],
+    ) -> Result<(), Fault>
+        requires start { self.old.end < 2 ^ 30 }
+        requires short { length value.now ≤ 160 }
+        ensures bound { self.new.end ≤ self.old.end + 968 }
+        ensures text { after (λ done. (self.new.end, out.new)) (told result) ≡ onward self.old.end out.old (framed (brackets_of recipe) (spelt_out (H.meaning host.now) recipe.body hole 0 value.now)) }
+    {
+        self.put(recipe.opener.as_slice(), out);
+        self.put_value(host, recipe.body, value, hole, out)?;
+        self.put(recipe.closer.as_slice(), out);
+        Ok(())
+    }
+}
