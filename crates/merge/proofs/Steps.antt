@@ -2,13 +2,10 @@
 use Rattle.std.proofs.Common.{◌≡◌, ℕ, ◌+◌, List, ◌∷◌, Some, Ok, Err, Result, sym, refl, ap, ◌∙◌}
 use Rattle.host.specs.Meaning.{Meaning}
 use Rattle.host.specs.Run.{Item, literal, hole as gap}
-use Rattle.fault.specs.declared.fault.Fault.{Fault}
-use Rattle.fault.specs.Refusal.{Refusal, refusal_of, told}
+use Rattle.fault.specs.Refusal.{Refusal}
 use Rattle.template.specs.declared.survey.Survey.{Survey}
 use Rattle.template.specs.Items.{names_in, names}
-use Rattle.template.specs.declared.checked.Checked.{Checked}
-use Rattle.template.specs.Checking.{checks_as}
-use Rattle.template.specs.Judging.{Verdict, refused, accepted, verdict, survey_of}
+use Rattle.template.specs.Judging.{Verdict, verdict, survey_of}
 use Rattle.template.specs.Lexing.{Lexed, byte, hole, end, fault, lexed_from}
 use Rattle.template.proofs.Accepted.{accepted_is}
 use Rattle.template.proofs.Reading.{items_of, nothing, chain_some}
@@ -19,14 +16,13 @@ use Rattle.record.specs.Answers.{value_of, answer, by_state}
 use Rattle.record.specs.Reading.{read_at}
 use Rattle.record.specs.Format.{Pair}
 use Rattle.printer.specs.Calls.{bodies_of}
-use Rattle.printer.specs.Held.{State, opened, judged_finish}
-use Rattle.printer.specs.Passes.{and_then, walked, WalksAsPrinted}
-use Rattle.printer.specs.Printing.{printed, after, weight, output}
-use Rattle.printer.specs.Rows.{value_at}
-use Rattle.printer.proofs.Writing.{refuses, same_ok}
-use Rattle.merge.specs.declared.merged.Merged.{Merged}
-use Rattle.merge.specs.Answers.{came_to, bind_pieces, completed_of, weighed_one, weighed, laid_over, written, record_pairs}
-use Rattle.merge.specs.Merging.{bind_named_lem, bind_all, completed, with_pairs, with_record, merged_by, merged}
+use Rattle.printer.specs.Held.{State}
+use Rattle.printer.specs.Passes.{and_then, walked}
+use Rattle.printer.specs.Printing.{printed, after, weight}
+use Rattle.printer.proofs.Turned.{walked_printed}
+use Rattle.printer.proofs.Writing.{refuses}
+use Rattle.merge.specs.Answers.{bind_pieces, weighed_one, weighed, laid_over, written, record_pairs}
+use Rattle.merge.specs.Merging.{bind_named_lem, bind_all, with_pairs, with_record, merged_by, merged}
 
 -- the pieces of a template whose notation is kept are bound as its names are
 pieces_named : (m : Meaning) (d : Verdict) (ps : List Pair) (e : ℕ) (l : Lexed) (is : List Item) (st : State) (k : ℕ) → items_of l ≡ Some is → bind_pieces m d ps e st k l ≡ bind_all m d ps e st k (names_in l)
@@ -41,73 +37,28 @@ pieces_named m d ps e (hole p n rest) is st k read =
 pieces_named m d ps e (end p) is st k read = refl
 pieces_named m d ps e (fault r) is st k read = absurd (nothing read)
 
--- a print, with the next place beside it
-with_next : (next : ℕ) (x : Result (List ℕ) Refusal) → after (λ k. (next, k)) (weight x) ≡ weighed_one (after (λ w. (next, w)) x)
-with_next next (Ok w) = refl
-with_next next (Err r) = refl
+-- where the host accepts the template, its notation is kept
+pub pieces_bound : (m : Meaning) (t : List ℕ) (s : Survey) (ps : List Pair) (e : ℕ) (st : State) → verdict m t ≡ survey_of s → bind_pieces m (survey_of s) ps e st 0 (lexed_from t 0) ≡ bind_all m (survey_of s) ps e st 0 (names t)
+pieces_bound m t s ps e st judged = let a = accepted_is m t s.bodies.len (bodies_of s) judged in pieces_named m (survey_of s) ps e (lexed_from t 0) _ st 0 a.read
 
-laid_with : (next : ℕ) (old : List ℕ) (x : Result (List ℕ) Refusal) → output old x ≡ laid_over old (after (λ w. (next, w)) x)
-laid_with next old (Ok w) = refl
-laid_with next old (Err r) = refl
+-- a print that is refused
+pub unprinted : (m : Meaning) (v : ℕ → List ℕ) (t : List ℕ) (s : Survey) (room : ℕ) (q : Refusal) → verdict m t ≡ survey_of s → Err q ≡ weight (walked m v t room) → printed m v t room ≡ Err q
+unprinted m v t s room q judged e = go (printed m v t room) (e ∙ ap weight (walked_printed m v t s.bodies.len (bodies_of s) judged room))
+  where
+    go : (x : Result (List ℕ) Refusal) → Err q ≡ weight x → x ≡ Err q
+    go (Ok w) f = absurd (refuses f)
+    go (Err r) f = let same : r ≡ q = cc in ap Err same
 
-module _ (m : Meaning) (t : List ℕ) (s : Survey) (judged : verdict m t ≡ survey_of s) (ps : List Pair) (e next room : ℕ) (m₁ : Meaning) (same : m₁ ≡ m) (t₁ : List ℕ) (is : t₁ ≡ t) (st₀ st₁ : State) (opened_as : st₀ ≡ opened s.holes) (r : Result (Unit {0}) Fault) (came : came_to r st₁ ≡ bind_pieces m₁ (survey_of s) ps e st₀ 0 (lexed_from t₁ 0)) where
-  bound : bind_all m (survey_of s) ps e (opened s.holes) 0 (names t) ≡ came_to r st₁
-  bound =
-      let a = accepted_is m t s.holes (bodies_of s) judged in
-      sym (pieces_named m (survey_of s) ps e (lexed_from t 0) _ (opened s.holes) 0 a.read)
-      ∙ ap (λ (u : List ℕ). bind_pieces m (survey_of s) ps e (opened s.holes) 0 (lexed_from u 0)) (sym is)
-      ∙ ap (λ (k : Meaning). bind_pieces k (survey_of s) ps e (opened s.holes) 0 (lexed_from t₁ 0)) (sym same)
-      ∙ ap (λ (st : State). bind_pieces m₁ (survey_of s) ps e st 0 (lexed_from t₁ 0)) (sym opened_as)
-      ∙ sym came
+-- a record that was found is merged under the verdict of a survey
+pub comes_found : (m : Meaning) (t input : List ℕ) (place room : ℕ) (s : Survey) → verdict m t ≡ survey_of s → (r : Record) → r.state ≡ Found → answer input r ≡ read_at input place → merged m t input place room ≡ after (λ y. Some y) (with_pairs m (survey_of s) t s.bodies.len room (record_pairs input r) r.end r.next)
+comes_found m t input place room s judged r is reads =
+    ap (λ (d : Verdict). merged_by d m t input place room) judged
+    ∙ ap (with_record m (survey_of s) t s.bodies.len room) (sym reads ∙ ap (λ (x : FoundOrNot). by_state x input r) is)
 
-  pub unbound : (f : Fault) → r ≡ Err f → with_pairs m (survey_of s) t s.holes room ps e next ≡ Err (refusal_of f)
-  unbound f q = ap (λ x. and_then x (completed m t room next)) (bound ∙ ap (λ x. came_to x st₁) q)
+pub weighed_some : (w : Result (ℕ × List ℕ) Refusal) → weighed (after (λ y. Some y) w) ≡ after (λ y. Some y) (weighed_one w)
+weighed_some (Ok w) = refl
+weighed_some (Err r) = refl
 
-  onward : (u : Unit {0}) → r ≡ Ok u → with_pairs m (survey_of s) t s.holes room ps e next ≡ completed m t room next st₁
-  onward u q = ap (λ x. and_then x (completed m t room next)) (bound ∙ ap (λ x. came_to x st₁) q)
-
-  pub unfinished : (u : Unit {0}) → r ≡ Ok u → (q : Refusal) → Err q ≡ judged_finish st₁.holes st₁.owed → with_pairs m (survey_of s) t s.holes room ps e next ≡ Err q
-  unfinished u ok q f = onward u ok ∙ ap (λ x. and_then x (λ _. after (λ w. (next, w)) (printed m (value_at st₁.rows) t room))) (sym f)
-
-  -- the print at the end, from the sheet as it was left
-  module _ (u : Unit {0}) (ok : r ≡ Ok u) (k : ℕ) (finished : Ok k ≡ judged_finish st₁.holes st₁.owed) (m₂ : Meaning) (same₂ : m₂ ≡ m) (t₂ : List ℕ) (is₂ : t₂ ≡ t) (law : WalksAsPrinted m₂ (value_at st₁.rows) t₂) where
-    comes : with_pairs m (survey_of s) t s.holes room ps e next ≡ after (λ w. (next, w)) (printed m (value_at st₁.rows) t room)
-    comes = onward u ok ∙ ap (λ x. and_then x (λ _. after (λ w. (next, w)) (printed m (value_at st₁.rows) t room))) (sym finished)
-
-    walks : walked m₂ (value_at st₁.rows) t₂ room ≡ printed m (value_at st₁.rows) t room
-    walks =
-        law s.holes (bodies_of s) (ap (λ (x : Meaning). verdict x t₂) same₂ ∙ ap (verdict m) is₂ ∙ judged) room
-        ∙ ap (λ (x : Meaning). printed x (value_at st₁.rows) t₂ room) same₂
-        ∙ ap (λ (x : List ℕ). printed m (value_at st₁.rows) x room) is₂
-
-    pub answered : (x : Result ℕ Fault) → told x ≡ weight (walked m₂ (value_at st₁.rows) t₂ room) → after (λ n. (next, n)) (told x) ≡ weighed_one (with_pairs m (survey_of s) t s.holes room ps e next)
-    answered x f = ap (after (λ n. (next, n))) (f ∙ ap weight walks) ∙ with_next next (printed m (value_at st₁.rows) t room) ∙ ap weighed_one (sym comes)
-
-    pub laid_out : (old new : List ℕ) → new ≡ output old (walked m₂ (value_at st₁.rows) t₂ room) → new ≡ laid_over old (with_pairs m (survey_of s) t s.holes room ps e next)
-    laid_out old new f = f ∙ ap (output old) walks ∙ laid_with next old (printed m (value_at st₁.rows) t room) ∙ ap (laid_over old) (sym comes)
-
--- a record that was found, beside those that were not
-with_some : (x : Result (ℕ × List ℕ) Refusal) → after (λ y. Some y) (weighed_one x) ≡ weighed (after (λ y. Some y) x)
-with_some (Ok y) = refl
-with_some (Err r) = refl
-
-written_some : (old : List ℕ) (x : Result (ℕ × List ℕ) Refusal) → laid_over old x ≡ written old (after (λ y. Some y) x)
-written_some old (Ok y) = refl
+pub written_some : (old : List ℕ) (w : Result (ℕ × List ℕ) Refusal) → written old (after (λ y. Some y) w) ≡ laid_over old w
+written_some old (Ok w) = refl
 written_some old (Err r) = refl
-
-module _ (m : Meaning) (t input : List ℕ) (place room : ℕ) (s : Survey) (judged : verdict m t ≡ survey_of s) (r : Record) (is : r.state ≡ Found) (reads : answer input r ≡ read_at input place) where
-  comes_found : after (λ y. Some y) (with_pairs m (survey_of s) t s.holes room (record_pairs input r) r.end r.next) ≡ merged m t input place room
-  comes_found =
-      ap (with_record m (survey_of s) t s.holes room) (sym (ap (λ (x : FoundOrNot). by_state x input r) is) ∙ reads)
-      ∙ sym (ap (λ (d : Verdict). merged_by d m t input place room) judged)
-
-  pub found_answer : (x : Result Merged Fault) → completed_of x ≡ weighed_one (with_pairs m (survey_of s) t s.holes room (record_pairs input r) r.end r.next) → after (λ y. Some y) (completed_of x) ≡ weighed (merged m t input place room)
-  found_answer x e = ap (after (λ y. Some y)) e ∙ with_some (with_pairs m (survey_of s) t s.holes room (record_pairs input r) r.end r.next) ∙ ap weighed comes_found
-
-  pub found_text : (old new : List ℕ) → new ≡ laid_over old (with_pairs m (survey_of s) t s.holes room (record_pairs input r) r.end r.next) → new ≡ written old (merged m t input place room)
-  found_text old new e = e ∙ written_some old (with_pairs m (survey_of s) t s.holes room (record_pairs input r) r.end r.next) ∙ ap (written old) comes_found
-
--- a checked template is the one that was given
-pub checked_is : (c : Checked) (t : List ℕ) (d : Verdict) → Ok (c.template.now, c.holes) ≡ checks_as t d → c.template.now ≡ t
-checked_is c t (refused q) e = absurd (refuses (sym e))
-checked_is c t (accepted n bs) e = ap (λ (x : List ℕ × ℕ). x.0) (same_ok e)

@@ -9,11 +9,11 @@ use Rattle.template.specs.Lexing.{Lexed, byte, hole, end, fault}
 use Rattle.record.specs.declared.shape.Record.{Record}
 use Rattle.record.specs.Answers.{value_of, pairs_of}
 use Rattle.record.specs.Format.{Pair}
-use Rattle.printer.specs.declared.finished.Finished.{Finished}
 use Rattle.printer.specs.Held.{State}
 use Rattle.printer.specs.Passes.{and_then}
 use Rattle.printer.specs.Printing.{after}
 use Rattle.merge.specs.declared.merged.Merged.{Merged}
+use Rattle.merge.specs.declared.source.Source.{Source}
 use Rattle.merge.specs.Merging.{bind_named_lem}
 
 -- The place after the record, and the length of the text.
@@ -27,10 +27,6 @@ merged_of (Err f) = Err (refusal_of f)
 abbrev pub completed_of : Result Merged Fault → Result (ℕ × ℕ) Refusal
 completed_of (Ok x) = Ok (told_of x)
 completed_of (Err f) = Err (refusal_of f)
-
-abbrev pub finished_of : Result Finished Fault → Result ℕ Refusal
-finished_of (Ok f) = Ok f.holes
-finished_of (Err f) = Err (refusal_of f)
 
 -- The same of what is defined: the text by its length.
 abbrev pub measured : ℕ × List ℕ → ℕ × ℕ
@@ -57,9 +53,12 @@ abbrev pub came_to : Result (Unit {0}) Fault → State → Result State Refusal
 came_to (Ok x) st = Ok st
 came_to (Err f) st = Err (refusal_of f)
 
--- The pairs of a record that was found.
+-- The pairs of a record that was found in an input.
 abbrev pub record_pairs : List ℕ → Record → List Pair
 record_pairs input r = pairs_of input (take r.count r.entries)
+
+abbrev pub source_pairs : Source → List Pair
+source_pairs s = record_pairs s.input.now s.found.now
 
 -- The binds of the pieces that are left of a template; a fault of notation stops them, as a check tells it.
 abbrev pub bind_pieces : Meaning → Verdict → List Pair → ℕ → State → ℕ → Lexed → Result State Refusal
