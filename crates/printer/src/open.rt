@@ -1,5 +1,5 @@
 // Opening a filling of a checked template.
-ghost use Rattle.std.specs.Prelude.{◌≡◌, min};
+ghost use Rattle.std.specs.Prelude.{◌≡◌};
 ghost use Rattle.printer.specs.Calls.{state_of};
 ghost use Rattle.printer.specs.Held.{Holds, opened};
 ghost use Rattle.printer.specs.Slate.{fresh};
@@ -8,17 +8,16 @@ use crate::filling::Filling;
 use crate::sheet::Sheet;
 use host::Host;
 use template::checked::Checked;
-use template::survey::MAX_HOLES;
 
 // Clears the sheet, and starts a filling of the template in which every hole is owed.
 pub fn open<'t, H: Host>(checked: Checked<'t>, sheet: &mut Sheet<H>) -> Filling<'t>
     ensures template { result.template.now ≡ checked.entry.template.now }
-    ensures state { state_of result sheet.new.table ≡ opened (min checked.entry.holes 64) }
+    ensures state { state_of result sheet.new.table ≡ opened checked.entry.holes }
     ensures host { sheet.new.host ≡ sheet.old.host }
-    ensures slate { Holds (state_of result sheet.new.table) (fresh (min checked.entry.holes 64)) }
+    ensures slate { Holds (state_of result sheet.new.table) (fresh checked.entry.holes) }
 {
     let template = checked.template();
-    let holes = checked.holes().min(MAX_HOLES);
+    let holes = checked.holes();
     sheet.clear();
     Filling::new(template, holes)
 }
