@@ -1,20 +1,13 @@
 // The table: inputs, and what reading a record at a place of them answers.
-#[derive(Clone, Copy)]
-pub enum Expected {
-    // So many pairs, the place of the end tag and the next place.
-    Found(usize, usize, usize),
-    // The place is the input's end.
-    End,
-    // The number and the place.
-    Refused(u8, usize),
-}
+use crate::answer::{Answer, Found};
+use casework::refusal::Refusal;
 
 #[derive(Clone, Copy)]
 pub struct Case {
     pub name: &'static str,
     pub input: &'static [u8],
     pub place: usize,
-    pub expected: Expected,
+    pub expected: Answer,
 }
 
 pub static CASES: [Case; 43] = [
@@ -22,258 +15,390 @@ pub static CASES: [Case; 43] = [
         name: "the empty input",
         input: b"",
         place: 0,
-        expected: Expected::End,
+        expected: Ok(None),
     },
     Case {
         name: "one pair",
         input: b"\x01\x00\x01a\x02\x00\x02hi\x03\x00\x00",
         place: 0,
-        expected: Expected::Found(1, 9, 12),
+        expected: Ok(Some(Found {
+            count: 1,
+            end: 9,
+            next: 12,
+        })),
     },
     Case {
         name: "the place after the last record",
         input: b"\x01\x00\x01a\x02\x00\x02hi\x03\x00\x00",
         place: 12,
-        expected: Expected::End,
+        expected: Ok(None),
     },
     Case {
         name: "a place past the input",
         input: b"\x01\x00\x01a\x02\x00\x02hi\x03\x00\x00",
         place: 13,
-        expected: Expected::Refused(20, 12),
+        expected: Err(Refusal::Plain {
+            number: 20,
+            place: 12,
+        }),
     },
     Case {
         name: "a record of no pairs, at the end tag of another",
         input: b"\x01\x00\x01a\x02\x00\x02hi\x03\x00\x00",
         place: 9,
-        expected: Expected::Found(0, 9, 12),
+        expected: Ok(Some(Found {
+            count: 0,
+            end: 9,
+            next: 12,
+        })),
     },
     Case {
         name: "a value where a record begins",
         input: b"\x01\x00\x01a\x02\x00\x02hi\x03\x00\x00",
         place: 4,
-        expected: Expected::Refused(22, 4),
+        expected: Err(Refusal::Plain {
+            number: 22,
+            place: 4,
+        }),
     },
     Case {
         name: "no pairs",
         input: b"\x03\x00\x00",
         place: 0,
-        expected: Expected::Found(0, 0, 3),
+        expected: Ok(Some(Found {
+            count: 0,
+            end: 0,
+            next: 3,
+        })),
     },
     Case {
         name: "a record after another",
         input: b"\x01\x00\x01a\x02\x00\x02hi\x03\x00\x00\x03\x00\x00",
         place: 12,
-        expected: Expected::Found(0, 12, 15),
+        expected: Ok(Some(Found {
+            count: 0,
+            end: 12,
+            next: 15,
+        })),
     },
     Case {
         name: "what follows a record is not looked at",
         input: b"\x01\x00\x01a\x02\x00\x02hi\x03\x00\x00\xff\xff",
         place: 0,
-        expected: Expected::Found(1, 9, 12),
+        expected: Ok(Some(Found {
+            count: 1,
+            end: 9,
+            next: 12,
+        })),
     },
     Case {
         name: "the same bytes, read where they stand",
         input: b"\x01\x00\x01a\x02\x00\x02hi\x03\x00\x00\xff\xff\xff\x00",
         place: 12,
-        expected: Expected::Refused(20, 12),
+        expected: Err(Refusal::Plain {
+            number: 20,
+            place: 12,
+        }),
     },
     Case {
         name: "tag 04",
         input: b"\x04\x00\x00",
         place: 0,
-        expected: Expected::Refused(21, 0),
+        expected: Err(Refusal::Plain {
+            number: 21,
+            place: 0,
+        }),
     },
     Case {
         name: "tag 00",
         input: b"\x00\x00\x00",
         place: 0,
-        expected: Expected::Refused(21, 0),
+        expected: Err(Refusal::Plain {
+            number: 21,
+            place: 0,
+        }),
     },
     Case {
         name: "tag FF where a value is due",
         input: b"\x01\x00\x01a\xff\x00\x00",
         place: 0,
-        expected: Expected::Refused(21, 4),
+        expected: Err(Refusal::Plain {
+            number: 21,
+            place: 4,
+        }),
     },
     Case {
         name: "the end where a value is due",
         input: b"\x01\x00\x01a\x03\x00\x00",
         place: 0,
-        expected: Expected::Refused(22, 4),
+        expected: Err(Refusal::Plain {
+            number: 22,
+            place: 4,
+        }),
     },
     Case {
         name: "a name where a value is due",
         input: b"\x01\x00\x01a\x01\x00\x01b",
         place: 0,
-        expected: Expected::Refused(22, 4),
+        expected: Err(Refusal::Plain {
+            number: 22,
+            place: 4,
+        }),
     },
     Case {
         name: "a value of 161 bytes out of turn",
         input: b"\x02\x00\xa1xxxxxxxxxxxxxxxxxxxxxxxxxxxxxxxxxxxxxxxxxxxxxxxxxxxxxxxxxxxxxxxxxxxxxxxxxxxxxxxxxxxxxxxxxxxxxxxxxxxxxxxxxxxxxxxxxxxxxxxxxxxxxxxxxxxxxxxxxxxxxxxxxxxxxxxxxxxxxxxxx",
         place: 0,
-        expected: Expected::Refused(22, 0),
+        expected: Err(Refusal::Plain {
+            number: 22,
+            place: 0,
+        }),
     },
     Case {
         name: "a second value for a name",
         input: b"\x01\x00\x01a\x02\x00\x00\x02\x00\x00\x03\x00\x00",
         place: 0,
-        expected: Expected::Refused(22, 7),
+        expected: Err(Refusal::Plain {
+            number: 22,
+            place: 7,
+        }),
     },
     Case {
         name: "an empty name",
         input: b"\x01\x00\x00",
         place: 0,
-        expected: Expected::Refused(23, 0),
+        expected: Err(Refusal::Plain {
+            number: 23,
+            place: 0,
+        }),
     },
     Case {
         name: "a capital letter",
         input: b"\x01\x00\x01A",
         place: 0,
-        expected: Expected::Refused(23, 0),
+        expected: Err(Refusal::Plain {
+            number: 23,
+            place: 0,
+        }),
     },
     Case {
         name: "a digit first",
         input: b"\x01\x00\x011",
         place: 0,
-        expected: Expected::Refused(23, 0),
+        expected: Err(Refusal::Plain {
+            number: 23,
+            place: 0,
+        }),
     },
     Case {
         name: "an underscore first",
         input: b"\x01\x00\x01_",
         place: 0,
-        expected: Expected::Refused(23, 0),
+        expected: Err(Refusal::Plain {
+            number: 23,
+            place: 0,
+        }),
     },
     Case {
         name: "a hyphen in a name",
         input: b"\x01\x00\x02a\x2d",
         place: 0,
-        expected: Expected::Refused(23, 0),
+        expected: Err(Refusal::Plain {
+            number: 23,
+            place: 0,
+        }),
     },
     Case {
         name: "byte 00 in a name",
         input: b"\x01\x00\x02a\x00",
         place: 0,
-        expected: Expected::Refused(23, 0),
+        expected: Err(Refusal::Plain {
+            number: 23,
+            place: 0,
+        }),
     },
     Case {
         name: "a name of sixteen bytes",
         input: b"\x01\x00\x10abcdefghij_12345\x02\x00\x00\x03\x00\x00",
         place: 0,
-        expected: Expected::Found(1, 22, 25),
+        expected: Ok(Some(Found {
+            count: 1,
+            end: 22,
+            next: 25,
+        })),
     },
     Case {
         name: "a name of seventeen bytes",
         input: b"\x01\x00\x11abcdefghij_123456\x02\x00\x00\x03\x00\x00",
         place: 0,
-        expected: Expected::Refused(23, 0),
+        expected: Err(Refusal::Plain {
+            number: 23,
+            place: 0,
+        }),
     },
     Case {
         name: "a bad name after a good pair",
         input: b"\x01\x00\x01a\x02\x00\x00\x01\x00\x01\x20",
         place: 0,
-        expected: Expected::Refused(23, 7),
+        expected: Err(Refusal::Plain {
+            number: 23,
+            place: 7,
+        }),
     },
     Case {
         name: "a name twice",
         input: b"\x01\x00\x01a\x02\x00\x00\x01\x00\x01a\x02\x00\x00\x03\x00\x00",
         place: 0,
-        expected: Expected::Refused(26, 7),
+        expected: Err(Refusal::Plain {
+            number: 26,
+            place: 7,
+        }),
     },
     Case {
         name: "a name twice, not next to itself",
         input: b"\x01\x00\x01a\x02\x00\x00\x01\x00\x01b\x02\x00\x00\x01\x00\x01a",
         place: 0,
-        expected: Expected::Refused(26, 14),
+        expected: Err(Refusal::Plain {
+            number: 26,
+            place: 14,
+        }),
     },
     Case {
         name: "names with the same first byte",
         input: b"\x01\x00\x02aa\x02\x00\x00\x01\x00\x02ab\x02\x00\x00\x03\x00\x00",
         place: 0,
-        expected: Expected::Found(2, 16, 19),
+        expected: Ok(Some(Found {
+            count: 2,
+            end: 16,
+            next: 19,
+        })),
     },
     Case {
         name: "a name that begins another",
         input: b"\x01\x00\x02aa\x02\x00\x00\x01\x00\x01a\x02\x00\x00\x03\x00\x00",
         place: 0,
-        expected: Expected::Found(2, 15, 18),
+        expected: Ok(Some(Found {
+            count: 2,
+            end: 15,
+            next: 18,
+        })),
     },
     Case {
         name: "a value with any bytes",
         input: b"\x01\x00\x01a\x02\x00\x03\x00\xff\x03\x03\x00\x00",
         place: 0,
-        expected: Expected::Found(1, 10, 13),
+        expected: Ok(Some(Found {
+            count: 1,
+            end: 10,
+            next: 13,
+        })),
     },
     Case {
         name: "an end with a length",
         input: b"\x03\x00\x01\x00",
         place: 0,
-        expected: Expected::Refused(27, 0),
+        expected: Err(Refusal::Plain {
+            number: 27,
+            place: 0,
+        }),
     },
     Case {
         name: "an end with a length after a pair",
         input: b"\x01\x00\x01a\x02\x00\x00\x03\x00\x01x",
         place: 0,
-        expected: Expected::Refused(27, 7),
+        expected: Err(Refusal::Plain {
+            number: 27,
+            place: 7,
+        }),
     },
     Case {
         name: "an end with a length in its high byte",
         input: b"\x03\x01\x00xxxxxxxxxxxxxxxxxxxxxxxxxxxxxxxxxxxxxxxxxxxxxxxxxxxxxxxxxxxxxxxxxxxxxxxxxxxxxxxxxxxxxxxxxxxxxxxxxxxxxxxxxxxxxxxxxxxxxxxxxxxxxxxxxxxxxxxxxxxxxxxxxxxxxxxxxxxxxxxxxxxxxxxxxxxxxxxxxxxxxxxxxxxxxxxxxxxxxxxxxxxxxxxxxxxxxxxxxxxxxxxxxxxxxxxxxxxxxxxxxxxxxxxxxxxxxxxx",
         place: 0,
-        expected: Expected::Refused(27, 0),
+        expected: Err(Refusal::Plain {
+            number: 27,
+            place: 0,
+        }),
     },
     Case {
         name: "a tag alone",
         input: b"\x01",
         place: 0,
-        expected: Expected::Refused(20, 0),
+        expected: Err(Refusal::Plain {
+            number: 20,
+            place: 0,
+        }),
     },
     Case {
         name: "an unknown tag alone",
         input: b"\x04",
         place: 0,
-        expected: Expected::Refused(20, 0),
+        expected: Err(Refusal::Plain {
+            number: 20,
+            place: 0,
+        }),
     },
     Case {
         name: "an unknown tag, and its field cut short",
         input: b"\x04\x00\x01",
         place: 0,
-        expected: Expected::Refused(20, 0),
+        expected: Err(Refusal::Plain {
+            number: 20,
+            place: 0,
+        }),
     },
     Case {
         name: "an end with a length, and cut short",
         input: b"\x03\x00\x05",
         place: 0,
-        expected: Expected::Refused(20, 0),
+        expected: Err(Refusal::Plain {
+            number: 20,
+            place: 0,
+        }),
     },
     Case {
         name: "a bad name, and cut short",
         input: b"\x01\x00\x03AA",
         place: 0,
-        expected: Expected::Refused(20, 0),
+        expected: Err(Refusal::Plain {
+            number: 20,
+            place: 0,
+        }),
     },
     Case {
         name: "a length of 256 read high byte first, and cut short",
         input: b"\x01\x01\x00a",
         place: 0,
-        expected: Expected::Refused(20, 0),
+        expected: Err(Refusal::Plain {
+            number: 20,
+            place: 0,
+        }),
     },
     Case {
         name: "a value of 256 bytes",
         input: b"\x01\x00\x01a\x02\x01\x00xxxxxxxxxxxxxxxxxxxxxxxxxxxxxxxxxxxxxxxxxxxxxxxxxxxxxxxxxxxxxxxxxxxxxxxxxxxxxxxxxxxxxxxxxxxxxxxxxxxxxxxxxxxxxxxxxxxxxxxxxxxxxxxxxxxxxxxxxxxxxxxxxxxxxxxxxxxxxxxxxxxxxxxxxxxxxxxxxxxxxxxxxxxxxxxxxxxxxxxxxxxxxxxxxxxxxxxxxxxxxxxxxxxxxxxxxxxxxxxxxxxxxxxxxxxxxxxx",
         place: 0,
-        expected: Expected::Refused(24, 4),
+        expected: Err(Refusal::Plain {
+            number: 24,
+            place: 4,
+        }),
     },
     Case {
         name: "the input ends after a name",
         input: b"\x01\x00\x01a",
         place: 0,
-        expected: Expected::Refused(20, 4),
+        expected: Err(Refusal::Plain {
+            number: 20,
+            place: 4,
+        }),
     },
     Case {
         name: "the input ends after a value",
         input: b"\x01\x00\x01a\x02\x00\x00",
         place: 0,
-        expected: Expected::Refused(20, 7),
+        expected: Err(Refusal::Plain {
+            number: 20,
+            place: 7,
+        }),
     },
 ];

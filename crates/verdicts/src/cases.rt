@@ -1,17 +1,12 @@
 // The table: templates, and their verdicts by the rules.
-#[derive(Clone, Copy)]
-pub enum Under {
-    Shell,
-    Sql,
-    Csv,
-}
+use casework::refusal::Refusal;
+use casework::under::Under;
 
+// How many holes an accepted template has, and the body of each of them.
 #[derive(Clone, Copy)]
-pub enum Verdict {
-    // Accepted, with this many holes, all of them with this body.
-    Holes(usize, u8),
-    // Refused: the number and the place.
-    Refused(u8, usize),
+pub struct Holes {
+    pub count: usize,
+    pub body: u8,
 }
 
 // A template under a host: `row`, `times` times, and then `rest`.
@@ -22,7 +17,7 @@ pub struct Case {
     pub row: &'static [u8],
     pub times: usize,
     pub rest: &'static [u8],
-    pub verdict: Verdict,
+    pub verdict: Result<Holes, Refusal>,
 }
 
 pub static SQL_CASES: [Case; 70] = [
@@ -32,7 +27,7 @@ pub static SQL_CASES: [Case; 70] = [
         row: b"",
         times: 1,
         rest: b"",
-        verdict: Verdict::Holes(0, 2),
+        verdict: Ok(Holes { count: 0, body: 2 }),
     },
     Case {
         under: Under::Sql,
@@ -40,7 +35,7 @@ pub static SQL_CASES: [Case; 70] = [
         row: b"INSERT INTO runs VALUES (@{run}, @{depth});",
         times: 1,
         rest: b"",
-        verdict: Verdict::Holes(2, 2),
+        verdict: Ok(Holes { count: 2, body: 2 }),
     },
     Case {
         under: Under::Sql,
@@ -48,7 +43,7 @@ pub static SQL_CASES: [Case; 70] = [
         row: b"@{a}'@{b}'",
         times: 1,
         rest: b"",
-        verdict: Verdict::Holes(2, 2),
+        verdict: Ok(Holes { count: 2, body: 2 }),
     },
     Case {
         under: Under::Sql,
@@ -56,7 +51,7 @@ pub static SQL_CASES: [Case; 70] = [
         row: b"'@{a}'",
         times: 1,
         rest: b"",
-        verdict: Verdict::Holes(1, 2),
+        verdict: Ok(Holes { count: 1, body: 2 }),
     },
     Case {
         under: Under::Sql,
@@ -64,7 +59,7 @@ pub static SQL_CASES: [Case; 70] = [
         row: b"'@{a}@{b}'",
         times: 1,
         rest: b"",
-        verdict: Verdict::Holes(2, 2),
+        verdict: Ok(Holes { count: 2, body: 2 }),
     },
     Case {
         under: Under::Sql,
@@ -72,7 +67,7 @@ pub static SQL_CASES: [Case; 70] = [
         row: b"@{a},@{a}",
         times: 1,
         rest: b"",
-        verdict: Verdict::Holes(2, 2),
+        verdict: Ok(Holes { count: 2, body: 2 }),
     },
     Case {
         under: Under::Sql,
@@ -80,7 +75,7 @@ pub static SQL_CASES: [Case; 70] = [
         row: b"@n@r@t",
         times: 1,
         rest: b"",
-        verdict: Verdict::Holes(0, 2),
+        verdict: Ok(Holes { count: 0, body: 2 }),
     },
     Case {
         under: Under::Sql,
@@ -88,7 +83,7 @@ pub static SQL_CASES: [Case; 70] = [
         row: b"'@@'",
         times: 1,
         rest: b"",
-        verdict: Verdict::Holes(0, 2),
+        verdict: Ok(Holes { count: 0, body: 2 }),
     },
     Case {
         under: Under::Sql,
@@ -96,7 +91,7 @@ pub static SQL_CASES: [Case; 70] = [
         row: b"'it''s'",
         times: 1,
         rest: b"",
-        verdict: Verdict::Holes(0, 2),
+        verdict: Ok(Holes { count: 0, body: 2 }),
     },
     Case {
         under: Under::Sql,
@@ -104,7 +99,7 @@ pub static SQL_CASES: [Case; 70] = [
         row: b"'\xc3\xa9'",
         times: 1,
         rest: b"",
-        verdict: Verdict::Holes(0, 2),
+        verdict: Ok(Holes { count: 0, body: 2 }),
     },
     Case {
         under: Under::Sql,
@@ -112,7 +107,7 @@ pub static SQL_CASES: [Case; 70] = [
         row: b"@{z}",
         times: 1,
         rest: b"",
-        verdict: Verdict::Holes(1, 2),
+        verdict: Ok(Holes { count: 1, body: 2 }),
     },
     Case {
         under: Under::Sql,
@@ -120,7 +115,7 @@ pub static SQL_CASES: [Case; 70] = [
         row: b"@{abcdefghijklmnop}",
         times: 1,
         rest: b"",
-        verdict: Verdict::Holes(1, 2),
+        verdict: Ok(Holes { count: 1, body: 2 }),
     },
     Case {
         under: Under::Sql,
@@ -128,7 +123,7 @@ pub static SQL_CASES: [Case; 70] = [
         row: b"@{a_0__9}",
         times: 1,
         rest: b"",
-        verdict: Verdict::Holes(1, 2),
+        verdict: Ok(Holes { count: 1, body: 2 }),
     },
     Case {
         under: Under::Sql,
@@ -136,7 +131,7 @@ pub static SQL_CASES: [Case; 70] = [
         row: b"@{a},",
         times: 64,
         rest: b"",
-        verdict: Verdict::Holes(64, 2),
+        verdict: Ok(Holes { count: 64, body: 2 }),
     },
     Case {
         under: Under::Sql,
@@ -144,7 +139,7 @@ pub static SQL_CASES: [Case; 70] = [
         row: b"a",
         times: 3584,
         rest: b"",
-        verdict: Verdict::Holes(0, 2),
+        verdict: Ok(Holes { count: 0, body: 2 }),
     },
     Case {
         under: Under::Sql,
@@ -152,7 +147,7 @@ pub static SQL_CASES: [Case; 70] = [
         row: b" ",
         times: 3580,
         rest: b"@{a}",
-        verdict: Verdict::Holes(1, 2),
+        verdict: Ok(Holes { count: 1, body: 2 }),
     },
     Case {
         under: Under::Sql,
@@ -160,7 +155,10 @@ pub static SQL_CASES: [Case; 70] = [
         row: b"a",
         times: 3585,
         rest: b"",
-        verdict: Verdict::Refused(1, 3584),
+        verdict: Err(Refusal::Plain {
+            number: 1,
+            place: 3584,
+        }),
     },
     Case {
         under: Under::Sql,
@@ -168,7 +166,10 @@ pub static SQL_CASES: [Case; 70] = [
         row: b"a",
         times: 3584,
         rest: b"-",
-        verdict: Verdict::Refused(1, 3584),
+        verdict: Err(Refusal::Plain {
+            number: 1,
+            place: 3584,
+        }),
     },
     Case {
         under: Under::Sql,
@@ -176,7 +177,10 @@ pub static SQL_CASES: [Case; 70] = [
         row: b"-",
         times: 3585,
         rest: b"",
-        verdict: Verdict::Refused(1, 3584),
+        verdict: Err(Refusal::Plain {
+            number: 1,
+            place: 3584,
+        }),
     },
     Case {
         under: Under::Sql,
@@ -184,7 +188,10 @@ pub static SQL_CASES: [Case; 70] = [
         row: b"-",
         times: 3584,
         rest: b"",
-        verdict: Verdict::Refused(6, 0),
+        verdict: Err(Refusal::Plain {
+            number: 6,
+            place: 0,
+        }),
     },
     Case {
         under: Under::Sql,
@@ -192,7 +199,10 @@ pub static SQL_CASES: [Case; 70] = [
         row: b"a",
         times: 3583,
         rest: b"-",
-        verdict: Verdict::Refused(6, 3583),
+        verdict: Err(Refusal::Plain {
+            number: 6,
+            place: 3583,
+        }),
     },
     Case {
         under: Under::Sql,
@@ -200,7 +210,10 @@ pub static SQL_CASES: [Case; 70] = [
         row: b"@",
         times: 1,
         rest: b"",
-        verdict: Verdict::Refused(2, 0),
+        verdict: Err(Refusal::Plain {
+            number: 2,
+            place: 0,
+        }),
     },
     Case {
         under: Under::Sql,
@@ -208,7 +221,10 @@ pub static SQL_CASES: [Case; 70] = [
         row: b"ab@",
         times: 1,
         rest: b"",
-        verdict: Verdict::Refused(2, 2),
+        verdict: Err(Refusal::Plain {
+            number: 2,
+            place: 2,
+        }),
     },
     Case {
         under: Under::Sql,
@@ -216,7 +232,10 @@ pub static SQL_CASES: [Case; 70] = [
         row: b"'ab@",
         times: 1,
         rest: b"",
-        verdict: Verdict::Refused(2, 3),
+        verdict: Err(Refusal::Plain {
+            number: 2,
+            place: 3,
+        }),
     },
     Case {
         under: Under::Sql,
@@ -224,7 +243,10 @@ pub static SQL_CASES: [Case; 70] = [
         row: b"@x",
         times: 1,
         rest: b"",
-        verdict: Verdict::Refused(2, 0),
+        verdict: Err(Refusal::Plain {
+            number: 2,
+            place: 0,
+        }),
     },
     Case {
         under: Under::Sql,
@@ -232,7 +254,10 @@ pub static SQL_CASES: [Case; 70] = [
         row: b"@N",
         times: 1,
         rest: b"",
-        verdict: Verdict::Refused(2, 0),
+        verdict: Err(Refusal::Plain {
+            number: 2,
+            place: 0,
+        }),
     },
     Case {
         under: Under::Sql,
@@ -240,7 +265,10 @@ pub static SQL_CASES: [Case; 70] = [
         row: b"a @ b",
         times: 1,
         rest: b"",
-        verdict: Verdict::Refused(2, 2),
+        verdict: Err(Refusal::Plain {
+            number: 2,
+            place: 2,
+        }),
     },
     Case {
         under: Under::Sql,
@@ -248,7 +276,10 @@ pub static SQL_CASES: [Case; 70] = [
         row: b"a,@}",
         times: 1,
         rest: b"",
-        verdict: Verdict::Refused(2, 2),
+        verdict: Err(Refusal::Plain {
+            number: 2,
+            place: 2,
+        }),
     },
     Case {
         under: Under::Sql,
@@ -256,7 +287,10 @@ pub static SQL_CASES: [Case; 70] = [
         row: b"@{",
         times: 1,
         rest: b"",
-        verdict: Verdict::Refused(3, 2),
+        verdict: Err(Refusal::Plain {
+            number: 3,
+            place: 2,
+        }),
     },
     Case {
         under: Under::Sql,
@@ -264,7 +298,10 @@ pub static SQL_CASES: [Case; 70] = [
         row: b"@{}",
         times: 1,
         rest: b"",
-        verdict: Verdict::Refused(3, 2),
+        verdict: Err(Refusal::Plain {
+            number: 3,
+            place: 2,
+        }),
     },
     Case {
         under: Under::Sql,
@@ -272,7 +309,10 @@ pub static SQL_CASES: [Case; 70] = [
         row: b"@{a",
         times: 1,
         rest: b"",
-        verdict: Verdict::Refused(3, 3),
+        verdict: Err(Refusal::Plain {
+            number: 3,
+            place: 3,
+        }),
     },
     Case {
         under: Under::Sql,
@@ -280,7 +320,10 @@ pub static SQL_CASES: [Case; 70] = [
         row: b"@{abcdefghijklmnop",
         times: 1,
         rest: b"",
-        verdict: Verdict::Refused(3, 18),
+        verdict: Err(Refusal::Plain {
+            number: 3,
+            place: 18,
+        }),
     },
     Case {
         under: Under::Sql,
@@ -288,7 +331,10 @@ pub static SQL_CASES: [Case; 70] = [
         row: b"@{abcdefghijklmnopq}",
         times: 1,
         rest: b"",
-        verdict: Verdict::Refused(3, 18),
+        verdict: Err(Refusal::Plain {
+            number: 3,
+            place: 18,
+        }),
     },
     Case {
         under: Under::Sql,
@@ -296,7 +342,10 @@ pub static SQL_CASES: [Case; 70] = [
         row: b"@{abcdefghijklmnop_}",
         times: 1,
         rest: b"",
-        verdict: Verdict::Refused(3, 18),
+        verdict: Err(Refusal::Plain {
+            number: 3,
+            place: 18,
+        }),
     },
     Case {
         under: Under::Sql,
@@ -304,7 +353,10 @@ pub static SQL_CASES: [Case; 70] = [
         row: b"@{1}",
         times: 1,
         rest: b"",
-        verdict: Verdict::Refused(3, 2),
+        verdict: Err(Refusal::Plain {
+            number: 3,
+            place: 2,
+        }),
     },
     Case {
         under: Under::Sql,
@@ -312,7 +364,10 @@ pub static SQL_CASES: [Case; 70] = [
         row: b"@{_a}",
         times: 1,
         rest: b"",
-        verdict: Verdict::Refused(3, 2),
+        verdict: Err(Refusal::Plain {
+            number: 3,
+            place: 2,
+        }),
     },
     Case {
         under: Under::Sql,
@@ -320,7 +375,10 @@ pub static SQL_CASES: [Case; 70] = [
         row: b"@{aB}",
         times: 1,
         rest: b"",
-        verdict: Verdict::Refused(3, 3),
+        verdict: Err(Refusal::Plain {
+            number: 3,
+            place: 3,
+        }),
     },
     Case {
         under: Under::Sql,
@@ -328,7 +386,10 @@ pub static SQL_CASES: [Case; 70] = [
         row: b"@{a b}",
         times: 1,
         rest: b"",
-        verdict: Verdict::Refused(3, 3),
+        verdict: Err(Refusal::Plain {
+            number: 3,
+            place: 3,
+        }),
     },
     Case {
         under: Under::Sql,
@@ -336,7 +397,10 @@ pub static SQL_CASES: [Case; 70] = [
         row: b"@{a@{b}}",
         times: 1,
         rest: b"",
-        verdict: Verdict::Refused(3, 3),
+        verdict: Err(Refusal::Plain {
+            number: 3,
+            place: 3,
+        }),
     },
     Case {
         under: Under::Sql,
@@ -344,7 +408,10 @@ pub static SQL_CASES: [Case; 70] = [
         row: b"@{a}@{B}",
         times: 1,
         rest: b"",
-        verdict: Verdict::Refused(3, 6),
+        verdict: Err(Refusal::Plain {
+            number: 3,
+            place: 6,
+        }),
     },
     Case {
         under: Under::Sql,
@@ -352,7 +419,10 @@ pub static SQL_CASES: [Case; 70] = [
         row: b"@{a},",
         times: 65,
         rest: b"",
-        verdict: Verdict::Refused(5, 320),
+        verdict: Err(Refusal::Plain {
+            number: 5,
+            place: 320,
+        }),
     },
     Case {
         under: Under::Sql,
@@ -360,7 +430,10 @@ pub static SQL_CASES: [Case; 70] = [
         row: b"@{a},",
         times: 64,
         rest: b"a@{b}",
-        verdict: Verdict::Refused(5, 321),
+        verdict: Err(Refusal::Plain {
+            number: 5,
+            place: 321,
+        }),
     },
     Case {
         under: Under::Sql,
@@ -368,7 +441,10 @@ pub static SQL_CASES: [Case; 70] = [
         row: b"@{a},",
         times: 64,
         rest: b"@{1}",
-        verdict: Verdict::Refused(3, 322),
+        verdict: Err(Refusal::Plain {
+            number: 3,
+            place: 322,
+        }),
     },
     Case {
         under: Under::Sql,
@@ -376,7 +452,10 @@ pub static SQL_CASES: [Case; 70] = [
         row: b"@{a},",
         times: 64,
         rest: b"-@{b}",
-        verdict: Verdict::Refused(6, 320),
+        verdict: Err(Refusal::Plain {
+            number: 6,
+            place: 320,
+        }),
     },
     Case {
         under: Under::Sql,
@@ -384,7 +463,10 @@ pub static SQL_CASES: [Case; 70] = [
         row: b"-",
         times: 1,
         rest: b"",
-        verdict: Verdict::Refused(6, 0),
+        verdict: Err(Refusal::Plain {
+            number: 6,
+            place: 0,
+        }),
     },
     Case {
         under: Under::Sql,
@@ -392,7 +474,10 @@ pub static SQL_CASES: [Case; 70] = [
         row: b"a - b",
         times: 1,
         rest: b"",
-        verdict: Verdict::Refused(6, 2),
+        verdict: Err(Refusal::Plain {
+            number: 6,
+            place: 2,
+        }),
     },
     Case {
         under: Under::Sql,
@@ -400,7 +485,10 @@ pub static SQL_CASES: [Case; 70] = [
         row: b"a'",
         times: 1,
         rest: b"",
-        verdict: Verdict::Refused(6, 1),
+        verdict: Err(Refusal::Plain {
+            number: 6,
+            place: 1,
+        }),
     },
     Case {
         under: Under::Sql,
@@ -408,7 +496,10 @@ pub static SQL_CASES: [Case; 70] = [
         row: b"a\"",
         times: 1,
         rest: b"",
-        verdict: Verdict::Refused(6, 1),
+        verdict: Err(Refusal::Plain {
+            number: 6,
+            place: 1,
+        }),
     },
     Case {
         under: Under::Sql,
@@ -416,7 +507,10 @@ pub static SQL_CASES: [Case; 70] = [
         row: b"'a'\"",
         times: 1,
         rest: b"",
-        verdict: Verdict::Refused(6, 3),
+        verdict: Err(Refusal::Plain {
+            number: 6,
+            place: 3,
+        }),
     },
     Case {
         under: Under::Sql,
@@ -424,7 +518,10 @@ pub static SQL_CASES: [Case; 70] = [
         row: b"@{a}-",
         times: 1,
         rest: b"",
-        verdict: Verdict::Refused(6, 4),
+        verdict: Err(Refusal::Plain {
+            number: 6,
+            place: 4,
+        }),
     },
     Case {
         under: Under::Sql,
@@ -432,7 +529,10 @@ pub static SQL_CASES: [Case; 70] = [
         row: b"@{a}b/",
         times: 1,
         rest: b"",
-        verdict: Verdict::Refused(6, 5),
+        verdict: Err(Refusal::Plain {
+            number: 6,
+            place: 5,
+        }),
     },
     Case {
         under: Under::Sql,
@@ -440,7 +540,10 @@ pub static SQL_CASES: [Case; 70] = [
         row: b"@n-",
         times: 1,
         rest: b"",
-        verdict: Verdict::Refused(6, 2),
+        verdict: Err(Refusal::Plain {
+            number: 6,
+            place: 2,
+        }),
     },
     Case {
         under: Under::Sql,
@@ -448,7 +551,10 @@ pub static SQL_CASES: [Case; 70] = [
         row: b"a,@@",
         times: 1,
         rest: b"",
-        verdict: Verdict::Refused(6, 2),
+        verdict: Err(Refusal::Plain {
+            number: 6,
+            place: 2,
+        }),
     },
     Case {
         under: Under::Sql,
@@ -456,7 +562,10 @@ pub static SQL_CASES: [Case; 70] = [
         row: b"\x00",
         times: 1,
         rest: b"",
-        verdict: Verdict::Refused(6, 0),
+        verdict: Err(Refusal::Plain {
+            number: 6,
+            place: 0,
+        }),
     },
     Case {
         under: Under::Sql,
@@ -464,7 +573,10 @@ pub static SQL_CASES: [Case; 70] = [
         row: b"'\x00'",
         times: 1,
         rest: b"",
-        verdict: Verdict::Refused(6, 1),
+        verdict: Err(Refusal::Plain {
+            number: 6,
+            place: 1,
+        }),
     },
     Case {
         under: Under::Sql,
@@ -472,7 +584,10 @@ pub static SQL_CASES: [Case; 70] = [
         row: b"'a'\x00",
         times: 1,
         rest: b"",
-        verdict: Verdict::Refused(6, 3),
+        verdict: Err(Refusal::Plain {
+            number: 6,
+            place: 3,
+        }),
     },
     Case {
         under: Under::Sql,
@@ -480,7 +595,10 @@ pub static SQL_CASES: [Case; 70] = [
         row: b"\xc3",
         times: 1,
         rest: b"",
-        verdict: Verdict::Refused(6, 0),
+        verdict: Err(Refusal::Plain {
+            number: 6,
+            place: 0,
+        }),
     },
     Case {
         under: Under::Sql,
@@ -488,7 +606,10 @@ pub static SQL_CASES: [Case; 70] = [
         row: b"a@{b}",
         times: 1,
         rest: b"",
-        verdict: Verdict::Refused(7, 1),
+        verdict: Err(Refusal::Plain {
+            number: 7,
+            place: 1,
+        }),
     },
     Case {
         under: Under::Sql,
@@ -496,7 +617,10 @@ pub static SQL_CASES: [Case; 70] = [
         row: b"@{a}@{b}",
         times: 1,
         rest: b"",
-        verdict: Verdict::Refused(7, 4),
+        verdict: Err(Refusal::Plain {
+            number: 7,
+            place: 4,
+        }),
     },
     Case {
         under: Under::Sql,
@@ -504,7 +628,10 @@ pub static SQL_CASES: [Case; 70] = [
         row: b"'x'@{a}",
         times: 1,
         rest: b"",
-        verdict: Verdict::Refused(7, 3),
+        verdict: Err(Refusal::Plain {
+            number: 7,
+            place: 3,
+        }),
     },
     Case {
         under: Under::Sql,
@@ -512,7 +639,10 @@ pub static SQL_CASES: [Case; 70] = [
         row: b"1,2@{a}",
         times: 1,
         rest: b"",
-        verdict: Verdict::Refused(7, 3),
+        verdict: Err(Refusal::Plain {
+            number: 7,
+            place: 3,
+        }),
     },
     Case {
         under: Under::Sql,
@@ -520,7 +650,10 @@ pub static SQL_CASES: [Case; 70] = [
         row: b"'",
         times: 1,
         rest: b"",
-        verdict: Verdict::Refused(8, 1),
+        verdict: Err(Refusal::Plain {
+            number: 8,
+            place: 1,
+        }),
     },
     Case {
         under: Under::Sql,
@@ -528,7 +661,10 @@ pub static SQL_CASES: [Case; 70] = [
         row: b"'abc",
         times: 1,
         rest: b"",
-        verdict: Verdict::Refused(8, 4),
+        verdict: Err(Refusal::Plain {
+            number: 8,
+            place: 4,
+        }),
     },
     Case {
         under: Under::Sql,
@@ -536,7 +672,10 @@ pub static SQL_CASES: [Case; 70] = [
         row: b"'@{a}",
         times: 1,
         rest: b"",
-        verdict: Verdict::Refused(8, 5),
+        verdict: Err(Refusal::Plain {
+            number: 8,
+            place: 5,
+        }),
     },
     Case {
         under: Under::Sql,
@@ -544,7 +683,10 @@ pub static SQL_CASES: [Case; 70] = [
         row: b"'@n",
         times: 1,
         rest: b"",
-        verdict: Verdict::Refused(8, 3),
+        verdict: Err(Refusal::Plain {
+            number: 8,
+            place: 3,
+        }),
     },
     Case {
         under: Under::Sql,
@@ -552,7 +694,10 @@ pub static SQL_CASES: [Case; 70] = [
         row: b"@{a}'",
         times: 1,
         rest: b"",
-        verdict: Verdict::Refused(8, 5),
+        verdict: Err(Refusal::Plain {
+            number: 8,
+            place: 5,
+        }),
     },
     Case {
         under: Under::Sql,
@@ -560,7 +705,10 @@ pub static SQL_CASES: [Case; 70] = [
         row: b"a-@x",
         times: 1,
         rest: b"",
-        verdict: Verdict::Refused(6, 1),
+        verdict: Err(Refusal::Plain {
+            number: 6,
+            place: 1,
+        }),
     },
     Case {
         under: Under::Sql,
@@ -568,7 +716,10 @@ pub static SQL_CASES: [Case; 70] = [
         row: b"@x-",
         times: 1,
         rest: b"",
-        verdict: Verdict::Refused(2, 0),
+        verdict: Err(Refusal::Plain {
+            number: 2,
+            place: 0,
+        }),
     },
     Case {
         under: Under::Sql,
@@ -576,7 +727,10 @@ pub static SQL_CASES: [Case; 70] = [
         row: b"'@{A}",
         times: 1,
         rest: b"",
-        verdict: Verdict::Refused(3, 3),
+        verdict: Err(Refusal::Plain {
+            number: 3,
+            place: 3,
+        }),
     },
     Case {
         under: Under::Sql,
@@ -584,7 +738,10 @@ pub static SQL_CASES: [Case; 70] = [
         row: b"a@{b}-",
         times: 1,
         rest: b"",
-        verdict: Verdict::Refused(7, 1),
+        verdict: Err(Refusal::Plain {
+            number: 7,
+            place: 1,
+        }),
     },
 ];
 
@@ -595,7 +752,7 @@ pub static SHELL_CASES: [Case; 23] = [
         row: b"",
         times: 1,
         rest: b"",
-        verdict: Verdict::Holes(0, 4),
+        verdict: Ok(Holes { count: 0, body: 4 }),
     },
     Case {
         under: Under::Shell,
@@ -603,7 +760,7 @@ pub static SHELL_CASES: [Case; 23] = [
         row: b"echo @{a}",
         times: 1,
         rest: b"",
-        verdict: Verdict::Holes(1, 4),
+        verdict: Ok(Holes { count: 1, body: 4 }),
     },
     Case {
         under: Under::Shell,
@@ -611,7 +768,7 @@ pub static SHELL_CASES: [Case; 23] = [
         row: b"a@{b}c",
         times: 1,
         rest: b"",
-        verdict: Verdict::Holes(1, 4),
+        verdict: Ok(Holes { count: 1, body: 4 }),
     },
     Case {
         under: Under::Shell,
@@ -619,7 +776,7 @@ pub static SHELL_CASES: [Case; 23] = [
         row: b"@{a}@{b}",
         times: 1,
         rest: b"",
-        verdict: Verdict::Holes(2, 4),
+        verdict: Ok(Holes { count: 2, body: 4 }),
     },
     Case {
         under: Under::Shell,
@@ -627,7 +784,7 @@ pub static SHELL_CASES: [Case; 23] = [
         row: b"'@{a}'",
         times: 1,
         rest: b"",
-        verdict: Verdict::Holes(1, 4),
+        verdict: Ok(Holes { count: 1, body: 4 }),
     },
     Case {
         under: Under::Shell,
@@ -635,7 +792,7 @@ pub static SHELL_CASES: [Case; 23] = [
         row: b"\"@{a}\"",
         times: 1,
         rest: b"",
-        verdict: Verdict::Holes(1, 5),
+        verdict: Ok(Holes { count: 1, body: 5 }),
     },
     Case {
         under: Under::Shell,
@@ -643,7 +800,7 @@ pub static SHELL_CASES: [Case; 23] = [
         row: b"a@@b",
         times: 1,
         rest: b"",
-        verdict: Verdict::Holes(0, 4),
+        verdict: Ok(Holes { count: 0, body: 4 }),
     },
     Case {
         under: Under::Shell,
@@ -651,7 +808,7 @@ pub static SHELL_CASES: [Case; 23] = [
         row: b"'@r'",
         times: 1,
         rest: b"",
-        verdict: Verdict::Holes(0, 4),
+        verdict: Ok(Holes { count: 0, body: 4 }),
     },
     Case {
         under: Under::Shell,
@@ -659,7 +816,7 @@ pub static SHELL_CASES: [Case; 23] = [
         row: b"@{a}",
         times: 64,
         rest: b"",
-        verdict: Verdict::Holes(64, 4),
+        verdict: Ok(Holes { count: 64, body: 4 }),
     },
     Case {
         under: Under::Shell,
@@ -667,7 +824,10 @@ pub static SHELL_CASES: [Case; 23] = [
         row: b"@{a}",
         times: 65,
         rest: b"",
-        verdict: Verdict::Refused(5, 256),
+        verdict: Err(Refusal::Plain {
+            number: 5,
+            place: 256,
+        }),
     },
     Case {
         under: Under::Shell,
@@ -675,7 +835,7 @@ pub static SHELL_CASES: [Case; 23] = [
         row: b"a",
         times: 3584,
         rest: b"",
-        verdict: Verdict::Holes(0, 4),
+        verdict: Ok(Holes { count: 0, body: 4 }),
     },
     Case {
         under: Under::Shell,
@@ -683,7 +843,10 @@ pub static SHELL_CASES: [Case; 23] = [
         row: b"a",
         times: 3585,
         rest: b"",
-        verdict: Verdict::Refused(1, 3584),
+        verdict: Err(Refusal::Plain {
+            number: 1,
+            place: 3584,
+        }),
     },
     Case {
         under: Under::Shell,
@@ -691,7 +854,10 @@ pub static SHELL_CASES: [Case; 23] = [
         row: b"a $b",
         times: 1,
         rest: b"",
-        verdict: Verdict::Refused(6, 2),
+        verdict: Err(Refusal::Plain {
+            number: 6,
+            place: 2,
+        }),
     },
     Case {
         under: Under::Shell,
@@ -699,7 +865,10 @@ pub static SHELL_CASES: [Case; 23] = [
         row: b"\"$b\"",
         times: 1,
         rest: b"",
-        verdict: Verdict::Refused(6, 1),
+        verdict: Err(Refusal::Plain {
+            number: 6,
+            place: 1,
+        }),
     },
     Case {
         under: Under::Shell,
@@ -707,7 +876,10 @@ pub static SHELL_CASES: [Case; 23] = [
         row: b"a #b",
         times: 1,
         rest: b"",
-        verdict: Verdict::Refused(6, 2),
+        verdict: Err(Refusal::Plain {
+            number: 6,
+            place: 2,
+        }),
     },
     Case {
         under: Under::Shell,
@@ -715,7 +887,10 @@ pub static SHELL_CASES: [Case; 23] = [
         row: b"a @r",
         times: 1,
         rest: b"",
-        verdict: Verdict::Refused(6, 2),
+        verdict: Err(Refusal::Plain {
+            number: 6,
+            place: 2,
+        }),
     },
     Case {
         under: Under::Shell,
@@ -723,7 +898,10 @@ pub static SHELL_CASES: [Case; 23] = [
         row: b"'\x00'",
         times: 1,
         rest: b"",
-        verdict: Verdict::Refused(6, 1),
+        verdict: Err(Refusal::Plain {
+            number: 6,
+            place: 1,
+        }),
     },
     Case {
         under: Under::Shell,
@@ -731,7 +909,10 @@ pub static SHELL_CASES: [Case; 23] = [
         row: b"\\@{a}",
         times: 1,
         rest: b"",
-        verdict: Verdict::Refused(7, 1),
+        verdict: Err(Refusal::Plain {
+            number: 7,
+            place: 1,
+        }),
     },
     Case {
         under: Under::Shell,
@@ -739,7 +920,10 @@ pub static SHELL_CASES: [Case; 23] = [
         row: b"a\\@{a}",
         times: 1,
         rest: b"",
-        verdict: Verdict::Refused(7, 2),
+        verdict: Err(Refusal::Plain {
+            number: 7,
+            place: 2,
+        }),
     },
     Case {
         under: Under::Shell,
@@ -747,7 +931,10 @@ pub static SHELL_CASES: [Case; 23] = [
         row: b"\"\\@{a}\"",
         times: 1,
         rest: b"",
-        verdict: Verdict::Refused(7, 2),
+        verdict: Err(Refusal::Plain {
+            number: 7,
+            place: 2,
+        }),
     },
     Case {
         under: Under::Shell,
@@ -755,7 +942,10 @@ pub static SHELL_CASES: [Case; 23] = [
         row: b"a '",
         times: 1,
         rest: b"",
-        verdict: Verdict::Refused(8, 3),
+        verdict: Err(Refusal::Plain {
+            number: 8,
+            place: 3,
+        }),
     },
     Case {
         under: Under::Shell,
@@ -763,7 +953,10 @@ pub static SHELL_CASES: [Case; 23] = [
         row: b"\"a@{b}",
         times: 1,
         rest: b"",
-        verdict: Verdict::Refused(8, 6),
+        verdict: Err(Refusal::Plain {
+            number: 8,
+            place: 6,
+        }),
     },
     Case {
         under: Under::Shell,
@@ -771,7 +964,10 @@ pub static SHELL_CASES: [Case; 23] = [
         row: b"a\\",
         times: 1,
         rest: b"",
-        verdict: Verdict::Refused(8, 2),
+        verdict: Err(Refusal::Plain {
+            number: 8,
+            place: 2,
+        }),
     },
 ];
 
@@ -782,7 +978,7 @@ pub static CSV_CASES: [Case; 19] = [
         row: b"",
         times: 1,
         rest: b"",
-        verdict: Verdict::Holes(0, 3),
+        verdict: Ok(Holes { count: 0, body: 3 }),
     },
     Case {
         under: Under::Csv,
@@ -790,7 +986,7 @@ pub static CSV_CASES: [Case; 19] = [
         row: b"@{v}",
         times: 1,
         rest: b"",
-        verdict: Verdict::Holes(1, 3),
+        verdict: Ok(Holes { count: 1, body: 3 }),
     },
     Case {
         under: Under::Csv,
@@ -798,7 +994,7 @@ pub static CSV_CASES: [Case; 19] = [
         row: b"a,@{v}",
         times: 1,
         rest: b"",
-        verdict: Verdict::Holes(1, 3),
+        verdict: Ok(Holes { count: 1, body: 3 }),
     },
     Case {
         under: Under::Csv,
@@ -806,7 +1002,7 @@ pub static CSV_CASES: [Case; 19] = [
         row: b"a@{v}",
         times: 1,
         rest: b"",
-        verdict: Verdict::Holes(1, 2),
+        verdict: Ok(Holes { count: 1, body: 2 }),
     },
     Case {
         under: Under::Csv,
@@ -814,7 +1010,7 @@ pub static CSV_CASES: [Case; 19] = [
         row: b"\"a@{v}\"",
         times: 1,
         rest: b"",
-        verdict: Verdict::Holes(1, 3),
+        verdict: Ok(Holes { count: 1, body: 3 }),
     },
     Case {
         under: Under::Csv,
@@ -822,7 +1018,7 @@ pub static CSV_CASES: [Case; 19] = [
         row: b"a,b@r@n",
         times: 1,
         rest: b"",
-        verdict: Verdict::Holes(0, 3),
+        verdict: Ok(Holes { count: 0, body: 3 }),
     },
     Case {
         under: Under::Csv,
@@ -830,7 +1026,7 @@ pub static CSV_CASES: [Case; 19] = [
         row: b"@{a},",
         times: 64,
         rest: b"",
-        verdict: Verdict::Holes(64, 3),
+        verdict: Ok(Holes { count: 64, body: 3 }),
     },
     Case {
         under: Under::Csv,
@@ -838,7 +1034,10 @@ pub static CSV_CASES: [Case; 19] = [
         row: b"@{a},",
         times: 65,
         rest: b"",
-        verdict: Verdict::Refused(5, 320),
+        verdict: Err(Refusal::Plain {
+            number: 5,
+            place: 320,
+        }),
     },
     Case {
         under: Under::Csv,
@@ -846,7 +1045,10 @@ pub static CSV_CASES: [Case; 19] = [
         row: b"@{v}a",
         times: 1,
         rest: b"",
-        verdict: Verdict::Refused(6, 4),
+        verdict: Err(Refusal::Plain {
+            number: 6,
+            place: 4,
+        }),
     },
     Case {
         under: Under::Csv,
@@ -854,7 +1056,10 @@ pub static CSV_CASES: [Case; 19] = [
         row: b"@{v}@{w}",
         times: 1,
         rest: b"",
-        verdict: Verdict::Refused(7, 4),
+        verdict: Err(Refusal::Plain {
+            number: 7,
+            place: 4,
+        }),
     },
     Case {
         under: Under::Csv,
@@ -862,7 +1067,10 @@ pub static CSV_CASES: [Case; 19] = [
         row: b"a\"",
         times: 1,
         rest: b"",
-        verdict: Verdict::Refused(6, 1),
+        verdict: Err(Refusal::Plain {
+            number: 6,
+            place: 1,
+        }),
     },
     Case {
         under: Under::Csv,
@@ -870,7 +1078,10 @@ pub static CSV_CASES: [Case; 19] = [
         row: b"\"a\"b",
         times: 1,
         rest: b"",
-        verdict: Verdict::Refused(6, 3),
+        verdict: Err(Refusal::Plain {
+            number: 6,
+            place: 3,
+        }),
     },
     Case {
         under: Under::Csv,
@@ -878,7 +1089,10 @@ pub static CSV_CASES: [Case; 19] = [
         row: b"a@n",
         times: 1,
         rest: b"",
-        verdict: Verdict::Refused(6, 1),
+        verdict: Err(Refusal::Plain {
+            number: 6,
+            place: 1,
+        }),
     },
     Case {
         under: Under::Csv,
@@ -886,7 +1100,10 @@ pub static CSV_CASES: [Case; 19] = [
         row: b"a@rb",
         times: 1,
         rest: b"",
-        verdict: Verdict::Refused(6, 3),
+        verdict: Err(Refusal::Plain {
+            number: 6,
+            place: 3,
+        }),
     },
     Case {
         under: Under::Csv,
@@ -894,7 +1111,10 @@ pub static CSV_CASES: [Case; 19] = [
         row: b"@r@{v}",
         times: 1,
         rest: b"",
-        verdict: Verdict::Refused(7, 2),
+        verdict: Err(Refusal::Plain {
+            number: 7,
+            place: 2,
+        }),
     },
     Case {
         under: Under::Csv,
@@ -902,7 +1122,10 @@ pub static CSV_CASES: [Case; 19] = [
         row: b"a@r",
         times: 1,
         rest: b"",
-        verdict: Verdict::Refused(8, 3),
+        verdict: Err(Refusal::Plain {
+            number: 8,
+            place: 3,
+        }),
     },
     Case {
         under: Under::Csv,
@@ -910,7 +1133,10 @@ pub static CSV_CASES: [Case; 19] = [
         row: b"a\x09b",
         times: 1,
         rest: b"",
-        verdict: Verdict::Refused(6, 1),
+        verdict: Err(Refusal::Plain {
+            number: 6,
+            place: 1,
+        }),
     },
     Case {
         under: Under::Csv,
@@ -918,7 +1144,10 @@ pub static CSV_CASES: [Case; 19] = [
         row: b"a\x7f",
         times: 1,
         rest: b"",
-        verdict: Verdict::Refused(6, 1),
+        verdict: Err(Refusal::Plain {
+            number: 6,
+            place: 1,
+        }),
     },
     Case {
         under: Under::Csv,
@@ -926,6 +1155,9 @@ pub static CSV_CASES: [Case; 19] = [
         row: b"\"a@{v}",
         times: 1,
         rest: b"",
-        verdict: Verdict::Refused(8, 6),
+        verdict: Err(Refusal::Plain {
+            number: 8,
+            place: 6,
+        }),
     },
 ];
