@@ -9,24 +9,12 @@ use std::fmt;
 // A refusal, by the numbers that people know it by.
 #[derive(Clone, Copy, PartialEq, Debug)]
 pub enum Refusal {
-    // One that names a hole.
-    OfHole {
-        number: u8,
-        hole: usize,
-        place: usize,
-    },
-    // One that carries another, with the number and the place of that.
-    Carrying {
-        number: u8,
-        place: usize,
-        of: u8,
-        at: usize,
-    },
-    // Any other.
-    Plain {
-        number: u8,
-        place: usize,
-    },
+    // One that names a hole: the number, the hole and the place.
+    OfHole(u8, usize, usize),
+    // One that carries another: the number and the place, and those of the other.
+    Carrying(u8, usize, u8, usize),
+    // Any other: the number and the place.
+    Plain(u8, usize),
 }
 
 impl From<Fault> for Refusal {
@@ -36,18 +24,9 @@ impl From<Fault> for Refusal {
         let number = fault.number();
         let place = fault.place();
         match (fault.hole(), fault.carried()) {
-            (Some(hole), _) => Refusal::OfHole {
-                number,
-                hole,
-                place,
-            },
-            (None, Some(flaw)) => Refusal::Carrying {
-                number,
-                place,
-                of: flaw.number(),
-                at: flaw.place(),
-            },
-            (None, None) => Refusal::Plain { number, place },
+            (Some(hole), _) => Refusal::OfHole(number, hole, place),
+            (None, Some(flaw)) => Refusal::Carrying(number, place, flaw.number(), flaw.place()),
+            (None, None) => Refusal::Plain(number, place),
         }
     }
 }
@@ -57,18 +36,11 @@ impl fmt::Display for Refusal {
 
     fn fmt<W: fmt::Write>(&self, f: &mut fmt::Formatter<W>) -> fmt::Result {
         match self {
-            Refusal::OfHole {
-                number,
-                hole,
-                place,
-            } => write!(f, "{number} hole {hole} place {place}"),
-            Refusal::Carrying {
-                number,
-                place,
-                of,
-                at,
-            } => write!(f, "{number} place {place}, carries {of} place {at}"),
-            Refusal::Plain { number, place } => write!(f, "{number} place {place}"),
+            Refusal::OfHole(number, hole, place) => write!(f, "{number} hole {hole} place {place}"),
+            Refusal::Carrying(number, place, of, at) => {
+                write!(f, "{number} place {place}, carries {of} place {at}")
+            }
+            Refusal::Plain(number, place) => write!(f, "{number} place {place}"),
         }
     }
 }

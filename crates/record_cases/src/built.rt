@@ -27,10 +27,7 @@ static VALUED: [Valued; 2] = [
     Valued {
         about: "a value of 161 bytes",
         len: 161,
-        expected: Err(Refusal::Plain {
-            number: 24,
-            place: 4,
-        }),
+        expected: Err(Refusal::Plain(24, 4)),
     },
 ];
 
@@ -68,28 +65,19 @@ static NAMED: [Named; 4] = [
         about: "65 names",
         count: 65,
         rest: END,
-        expected: Err(Refusal::Plain {
-            number: 25,
-            place: 512,
-        }),
+        expected: Err(Refusal::Plain(25, 512)),
     },
     Named {
         about: "a bad name after 64",
         count: 64,
         rest: b"\x01\x00\x01A",
-        expected: Err(Refusal::Plain {
-            number: 23,
-            place: 512,
-        }),
+        expected: Err(Refusal::Plain(23, 512)),
     },
     Named {
         about: "a name twice after 64",
         count: 64,
         rest: b"\x01\x00\x02aa",
-        expected: Err(Refusal::Plain {
-            number: 25,
-            place: 512,
-        }),
+        expected: Err(Refusal::Plain(25, 512)),
     },
 ];
 
@@ -192,14 +180,11 @@ pub fn run_built(rt: &HostRuntime, tally: &mut Tally) -> anyhow::Result<()> {
     for case in &CUT {
         let Cut { about, len, place } = *case;
         let cut = &ONE_PAIR[..len.min(ONE_PAIR.len())];
-        let expected = Err(Refusal::Plain { number: 20, place });
+        let expected = Err(Refusal::Plain(20, place));
         tally.tell(rt, about, read_at(cut, 0) == expected)?;
     }
     let largest = read_at(ONE_PAIR, usize::MAX);
-    let expected = Err(Refusal::Plain {
-        number: 20,
-        place: 12,
-    });
+    let expected = Err(Refusal::Plain(20, 12));
     tally.tell(rt, "the largest place", largest == expected)?;
     Ok(())
 }

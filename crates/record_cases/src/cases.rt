@@ -37,10 +37,7 @@ pub static CASES: [Case; 43] = [
         name: "a place past the input",
         input: b"\x01\x00\x01a\x02\x00\x02hi\x03\x00\x00",
         place: 13,
-        expected: Err(Refusal::Plain {
-            number: 20,
-            place: 12,
-        }),
+        expected: Err(Refusal::Plain(20, 12)),
     },
     Case {
         name: "a record of no pairs, at the end tag of another",
@@ -56,10 +53,7 @@ pub static CASES: [Case; 43] = [
         name: "a value where a record begins",
         input: b"\x01\x00\x01a\x02\x00\x02hi\x03\x00\x00",
         place: 4,
-        expected: Err(Refusal::Plain {
-            number: 22,
-            place: 4,
-        }),
+        expected: Err(Refusal::Plain(22, 4)),
     },
     Case {
         name: "no pairs",
@@ -95,127 +89,85 @@ pub static CASES: [Case; 43] = [
         name: "the same bytes, read where they stand",
         input: b"\x01\x00\x01a\x02\x00\x02hi\x03\x00\x00\xff\xff\xff\x00",
         place: 12,
-        expected: Err(Refusal::Plain {
-            number: 20,
-            place: 12,
-        }),
+        expected: Err(Refusal::Plain(20, 12)),
     },
     Case {
         name: "tag 04",
         input: b"\x04\x00\x00",
         place: 0,
-        expected: Err(Refusal::Plain {
-            number: 21,
-            place: 0,
-        }),
+        expected: Err(Refusal::Plain(21, 0)),
     },
     Case {
         name: "tag 00",
         input: b"\x00\x00\x00",
         place: 0,
-        expected: Err(Refusal::Plain {
-            number: 21,
-            place: 0,
-        }),
+        expected: Err(Refusal::Plain(21, 0)),
     },
     Case {
         name: "tag FF where a value is due",
         input: b"\x01\x00\x01a\xff\x00\x00",
         place: 0,
-        expected: Err(Refusal::Plain {
-            number: 21,
-            place: 4,
-        }),
+        expected: Err(Refusal::Plain(21, 4)),
     },
     Case {
         name: "the end where a value is due",
         input: b"\x01\x00\x01a\x03\x00\x00",
         place: 0,
-        expected: Err(Refusal::Plain {
-            number: 22,
-            place: 4,
-        }),
+        expected: Err(Refusal::Plain(22, 4)),
     },
     Case {
         name: "a name where a value is due",
         input: b"\x01\x00\x01a\x01\x00\x01b",
         place: 0,
-        expected: Err(Refusal::Plain {
-            number: 22,
-            place: 4,
-        }),
+        expected: Err(Refusal::Plain(22, 4)),
     },
     Case {
         name: "a value of 161 bytes out of turn",
         input: b"\x02\x00\xa1xxxxxxxxxxxxxxxxxxxxxxxxxxxxxxxxxxxxxxxxxxxxxxxxxxxxxxxxxxxxxxxxxxxxxxxxxxxxxxxxxxxxxxxxxxxxxxxxxxxxxxxxxxxxxxxxxxxxxxxxxxxxxxxxxxxxxxxxxxxxxxxxxxxxxxxxxxxxxxxxx",
         place: 0,
-        expected: Err(Refusal::Plain {
-            number: 22,
-            place: 0,
-        }),
+        expected: Err(Refusal::Plain(22, 0)),
     },
     Case {
         name: "a second value for a name",
         input: b"\x01\x00\x01a\x02\x00\x00\x02\x00\x00\x03\x00\x00",
         place: 0,
-        expected: Err(Refusal::Plain {
-            number: 22,
-            place: 7,
-        }),
+        expected: Err(Refusal::Plain(22, 7)),
     },
     Case {
         name: "an empty name",
         input: b"\x01\x00\x00",
         place: 0,
-        expected: Err(Refusal::Plain {
-            number: 23,
-            place: 0,
-        }),
+        expected: Err(Refusal::Plain(23, 0)),
     },
     Case {
         name: "a capital letter",
         input: b"\x01\x00\x01A",
         place: 0,
-        expected: Err(Refusal::Plain {
-            number: 23,
-            place: 0,
-        }),
+        expected: Err(Refusal::Plain(23, 0)),
     },
     Case {
         name: "a digit first",
         input: b"\x01\x00\x011",
         place: 0,
-        expected: Err(Refusal::Plain {
-            number: 23,
-            place: 0,
-        }),
+        expected: Err(Refusal::Plain(23, 0)),
     },
     Case {
         name: "an underscore first",
         input: b"\x01\x00\x01_",
         place: 0,
-        expected: Err(Refusal::Plain {
-            number: 23,
-            place: 0,
-        }),
+        expected: Err(Refusal::Plain(23, 0)),
     },
     Case {
         name: "a hyphen in a name",
         input: b"\x01\x00\x02a\x2d",
         place: 0,
-        expected: Err(Refusal::Plain {
-            number: 23,
-            place: 0,
-        }),
+        expected: Err(Refusal::Plain(23, 0)),
     },
     Case {
         name: "byte 00 in a name",
         input: b"\x01\x00\x02a\x00",
         place: 0,
-        expected: Err(Refusal::Plain {
-            number: 23,
-            place: 0,
-        }),
+        expected: Err(Refusal::Plain(23, 0)),
     },
     Case {
         name: "a name of sixteen bytes",
@@ -231,37 +183,25 @@ pub static CASES: [Case; 43] = [
         name: "a name of seventeen bytes",
         input: b"\x01\x00\x11abcdefghij_123456\x02\x00\x00\x03\x00\x00",
         place: 0,
-        expected: Err(Refusal::Plain {
-            number: 23,
-            place: 0,
-        }),
+        expected: Err(Refusal::Plain(23, 0)),
     },
     Case {
         name: "a bad name after a good pair",
         input: b"\x01\x00\x01a\x02\x00\x00\x01\x00\x01\x20",
         place: 0,
-        expected: Err(Refusal::Plain {
-            number: 23,
-            place: 7,
-        }),
+        expected: Err(Refusal::Plain(23, 7)),
     },
     Case {
         name: "a name twice",
         input: b"\x01\x00\x01a\x02\x00\x00\x01\x00\x01a\x02\x00\x00\x03\x00\x00",
         place: 0,
-        expected: Err(Refusal::Plain {
-            number: 26,
-            place: 7,
-        }),
+        expected: Err(Refusal::Plain(26, 7)),
     },
     Case {
         name: "a name twice, not next to itself",
         input: b"\x01\x00\x01a\x02\x00\x00\x01\x00\x01b\x02\x00\x00\x01\x00\x01a",
         place: 0,
-        expected: Err(Refusal::Plain {
-            number: 26,
-            place: 14,
-        }),
+        expected: Err(Refusal::Plain(26, 14)),
     },
     Case {
         name: "names with the same first byte",
@@ -297,108 +237,72 @@ pub static CASES: [Case; 43] = [
         name: "an end with a length",
         input: b"\x03\x00\x01\x00",
         place: 0,
-        expected: Err(Refusal::Plain {
-            number: 27,
-            place: 0,
-        }),
+        expected: Err(Refusal::Plain(27, 0)),
     },
     Case {
         name: "an end with a length after a pair",
         input: b"\x01\x00\x01a\x02\x00\x00\x03\x00\x01x",
         place: 0,
-        expected: Err(Refusal::Plain {
-            number: 27,
-            place: 7,
-        }),
+        expected: Err(Refusal::Plain(27, 7)),
     },
     Case {
         name: "an end with a length in its high byte",
         input: b"\x03\x01\x00xxxxxxxxxxxxxxxxxxxxxxxxxxxxxxxxxxxxxxxxxxxxxxxxxxxxxxxxxxxxxxxxxxxxxxxxxxxxxxxxxxxxxxxxxxxxxxxxxxxxxxxxxxxxxxxxxxxxxxxxxxxxxxxxxxxxxxxxxxxxxxxxxxxxxxxxxxxxxxxxxxxxxxxxxxxxxxxxxxxxxxxxxxxxxxxxxxxxxxxxxxxxxxxxxxxxxxxxxxxxxxxxxxxxxxxxxxxxxxxxxxxxxxxxxxxxxxxx",
         place: 0,
-        expected: Err(Refusal::Plain {
-            number: 27,
-            place: 0,
-        }),
+        expected: Err(Refusal::Plain(27, 0)),
     },
     Case {
         name: "a tag alone",
         input: b"\x01",
         place: 0,
-        expected: Err(Refusal::Plain {
-            number: 20,
-            place: 0,
-        }),
+        expected: Err(Refusal::Plain(20, 0)),
     },
     Case {
         name: "an unknown tag alone",
         input: b"\x04",
         place: 0,
-        expected: Err(Refusal::Plain {
-            number: 20,
-            place: 0,
-        }),
+        expected: Err(Refusal::Plain(20, 0)),
     },
     Case {
         name: "an unknown tag, and its field cut short",
         input: b"\x04\x00\x01",
         place: 0,
-        expected: Err(Refusal::Plain {
-            number: 20,
-            place: 0,
-        }),
+        expected: Err(Refusal::Plain(20, 0)),
     },
     Case {
         name: "an end with a length, and cut short",
         input: b"\x03\x00\x05",
         place: 0,
-        expected: Err(Refusal::Plain {
-            number: 20,
-            place: 0,
-        }),
+        expected: Err(Refusal::Plain(20, 0)),
     },
     Case {
         name: "a bad name, and cut short",
         input: b"\x01\x00\x03AA",
         place: 0,
-        expected: Err(Refusal::Plain {
-            number: 20,
-            place: 0,
-        }),
+        expected: Err(Refusal::Plain(20, 0)),
     },
     Case {
         name: "a length of 256 read high byte first, and cut short",
         input: b"\x01\x01\x00a",
         place: 0,
-        expected: Err(Refusal::Plain {
-            number: 20,
-            place: 0,
-        }),
+        expected: Err(Refusal::Plain(20, 0)),
     },
     Case {
         name: "a value of 256 bytes",
         input: b"\x01\x00\x01a\x02\x01\x00xxxxxxxxxxxxxxxxxxxxxxxxxxxxxxxxxxxxxxxxxxxxxxxxxxxxxxxxxxxxxxxxxxxxxxxxxxxxxxxxxxxxxxxxxxxxxxxxxxxxxxxxxxxxxxxxxxxxxxxxxxxxxxxxxxxxxxxxxxxxxxxxxxxxxxxxxxxxxxxxxxxxxxxxxxxxxxxxxxxxxxxxxxxxxxxxxxxxxxxxxxxxxxxxxxxxxxxxxxxxxxxxxxxxxxxxxxxxxxxxxxxxxxxxxxxxxxxx",
         place: 0,
-        expected: Err(Refusal::Plain {
-            number: 24,
-            place: 4,
-        }),
+        expected: Err(Refusal::Plain(24, 4)),
     },
     Case {
         name: "the input ends after a name",
         input: b"\x01\x00\x01a",
         place: 0,
-        expected: Err(Refusal::Plain {
-            number: 20,
-            place: 4,
-        }),
+        expected: Err(Refusal::Plain(20, 4)),
     },
     Case {
         name: "the input ends after a value",
         input: b"\x01\x00\x01a\x02\x00\x00",
         place: 0,
-        expected: Err(Refusal::Plain {
-            number: 20,
-            place: 7,
-        }),
+        expected: Err(Refusal::Plain(20, 7)),
     },
 ];

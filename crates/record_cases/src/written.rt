@@ -37,26 +37,17 @@ static REFUSED: [Case; 3] = [
     Case {
         about: "the writer refuses a bad name",
         pairs: &[HI, BAD],
-        refusal: Refusal::Plain {
-            number: 23,
-            place: 11,
-        },
+        refusal: Refusal::Plain(23, 11),
     },
     Case {
         about: "the writer refuses a long value",
         pairs: &[HI, LONG],
-        refusal: Refusal::Plain {
-            number: 24,
-            place: 16,
-        },
+        refusal: Refusal::Plain(24, 16),
     },
     Case {
         about: "the writer refuses a name twice",
         pairs: &[HI, EMPTY, HI],
-        refusal: Refusal::Plain {
-            number: 26,
-            place: 20,
-        },
+        refusal: Refusal::Plain(26, 20),
     },
 ];
 

@@ -92,10 +92,7 @@ fn part_of(heap: Global, key: &str, times: usize, value: &str) -> Result<Part, U
 
 fn refusal_of(value: &str) -> Result<Refusal, Unread> {
     let (number, place) = value.split_once(' ').ok_or(Unread::Bad)?;
-    Ok(Refusal::Plain {
-        number: number.parse()?,
-        place: place.parse()?,
-    })
+    Ok(Refusal::Plain(number.parse()?, place.parse()?))
 }
 
 // The bytes that a text stands for: \\, \n, \r, \t and \xHH are one byte each, and a backslash before anything else is bad.

@@ -155,10 +155,7 @@ pub static SQL_CASES: [Case; 70] = [
         row: b"a",
         times: 3585,
         rest: b"",
-        verdict: Err(Refusal::Plain {
-            number: 1,
-            place: 3584,
-        }),
+        verdict: Err(Refusal::Plain(1, 3584)),
     },
     Case {
         under: Under::Sql,
@@ -166,10 +163,7 @@ pub static SQL_CASES: [Case; 70] = [
         row: b"a",
         times: 3584,
         rest: b"-",
-        verdict: Err(Refusal::Plain {
-            number: 1,
-            place: 3584,
-        }),
+        verdict: Err(Refusal::Plain(1, 3584)),
     },
     Case {
         under: Under::Sql,
@@ -177,10 +171,7 @@ pub static SQL_CASES: [Case; 70] = [
         row: b"-",
         times: 3585,
         rest: b"",
-        verdict: Err(Refusal::Plain {
-            number: 1,
-            place: 3584,
-        }),
+        verdict: Err(Refusal::Plain(1, 3584)),
     },
     Case {
         under: Under::Sql,
@@ -188,10 +179,7 @@ pub static SQL_CASES: [Case; 70] = [
         row: b"-",
         times: 3584,
         rest: b"",
-        verdict: Err(Refusal::Plain {
-            number: 6,
-            place: 0,
-        }),
+        verdict: Err(Refusal::Plain(6, 0)),
     },
     Case {
         under: Under::Sql,
@@ -199,10 +187,7 @@ pub static SQL_CASES: [Case; 70] = [
         row: b"a",
         times: 3583,
         rest: b"-",
-        verdict: Err(Refusal::Plain {
-            number: 6,
-            place: 3583,
-        }),
+        verdict: Err(Refusal::Plain(6, 3583)),
     },
     Case {
         under: Under::Sql,
@@ -210,10 +195,7 @@ pub static SQL_CASES: [Case; 70] = [
         row: b"@",
         times: 1,
         rest: b"",
-        verdict: Err(Refusal::Plain {
-            number: 2,
-            place: 0,
-        }),
+        verdict: Err(Refusal::Plain(2, 0)),
     },
     Case {
         under: Under::Sql,
@@ -221,10 +203,7 @@ pub static SQL_CASES: [Case; 70] = [
         row: b"ab@",
         times: 1,
         rest: b"",
-        verdict: Err(Refusal::Plain {
-            number: 2,
-            place: 2,
-        }),
+        verdict: Err(Refusal::Plain(2, 2)),
     },
     Case {
         under: Under::Sql,
@@ -232,10 +211,7 @@ pub static SQL_CASES: [Case; 70] = [
         row: b"'ab@",
         times: 1,
         rest: b"",
-        verdict: Err(Refusal::Plain {
-            number: 2,
-            place: 3,
-        }),
+        verdict: Err(Refusal::Plain(2, 3)),
     },
     Case {
         under: Under::Sql,
@@ -243,10 +219,7 @@ pub static SQL_CASES: [Case; 70] = [
         row: b"@x",
         times: 1,
         rest: b"",
-        verdict: Err(Refusal::Plain {
-            number: 2,
-            place: 0,
-        }),
+        verdict: Err(Refusal::Plain(2, 0)),
     },
     Case {
         under: Under::Sql,
@@ -254,10 +227,7 @@ pub static SQL_CASES: [Case; 70] = [
         row: b"@N",
         times: 1,
         rest: b"",
-        verdict: Err(Refusal::Plain {
-            number: 2,
-            place: 0,
-        }),
+        verdict: Err(Refusal::Plain(2, 0)),
     },
     Case {
         under: Under::Sql,
@@ -265,10 +235,7 @@ pub static SQL_CASES: [Case; 70] = [
         row: b"a @ b",
         times: 1,
         rest: b"",
-        verdict: Err(Refusal::Plain {
-            number: 2,
-            place: 2,
-        }),
+        verdict: Err(Refusal::Plain(2, 2)),
     },
     Case {
         under: Under::Sql,
@@ -276,10 +243,7 @@ pub static SQL_CASES: [Case; 70] = [
         row: b"a,@}",
         times: 1,
         rest: b"",
-        verdict: Err(Refusal::Plain {
-            number: 2,
-            place: 2,
-        }),
+        verdict: Err(Refusal::Plain(2, 2)),
     },
     Case {
         under: Under::Sql,
@@ -287,10 +251,7 @@ pub static SQL_CASES: [Case; 70] = [
         row: b"@{",
         times: 1,
         rest: b"",
-        verdict: Err(Refusal::Plain {
-            number: 3,
-            place: 2,
-        }),
+        verdict: Err(Refusal::Plain(3, 2)),
     },
     Case {
         under: Under::Sql,
@@ -298,10 +259,7 @@ pub static SQL_CASES: [Case; 70] = [
         row: b"@{}",
         times: 1,
         rest: b"",
-        verdict: Err(Refusal::Plain {
-            number: 3,
-            place: 2,
-        }),
+        verdict: Err(Refusal::Plain(3, 2)),
     },
     Case {
         under: Under::Sql,
@@ -309,10 +267,7 @@ pub static SQL_CASES: [Case; 70] = [
         row: b"@{a",
         times: 1,
         rest: b"",
-        verdict: Err(Refusal::Plain {
-            number: 3,
-            place: 3,
-        }),
+        verdict: Err(Refusal::Plain(3, 3)),
     },
     Case {
         under: Under::Sql,
@@ -320,10 +275,7 @@ pub static SQL_CASES: [Case; 70] = [
         row: b"@{abcdefghijklmnop",
         times: 1,
         rest: b"",
-        verdict: Err(Refusal::Plain {
-            number: 3,
-            place: 18,
-        }),
+        verdict: Err(Refusal::Plain(3, 18)),
     },
     Case {
         under: Under::Sql,
@@ -331,10 +283,7 @@ pub static SQL_CASES: [Case; 70] = [
         row: b"@{abcdefghijklmnopq}",
         times: 1,
         rest: b"",
-        verdict: Err(Refusal::Plain {
-            number: 3,
-            place: 18,
-        }),
+        verdict: Err(Refusal::Plain(3, 18)),
     },
     Case {
         under: Under::Sql,
@@ -342,10 +291,7 @@ pub static SQL_CASES: [Case; 70] = [
         row: b"@{abcdefghijklmnop_}",
         times: 1,
         rest: b"",
-        verdict: Err(Refusal::Plain {
-            number: 3,
-            place: 18,
-        }),
+        verdict: Err(Refusal::Plain(3, 18)),
     },
     Case {
         under: Under::Sql,
@@ -353,10 +299,7 @@ pub static SQL_CASES: [Case; 70] = [
         row: b"@{1}",
         times: 1,
         rest: b"",
-        verdict: Err(Refusal::Plain {
-            number: 3,
-            place: 2,
-        }),
+        verdict: Err(Refusal::Plain(3, 2)),
     },
     Case {
         under: Under::Sql,
@@ -364,10 +307,7 @@ pub static SQL_CASES: [Case; 70] = [
         row: b"@{_a}",
         times: 1,
         rest: b"",
-        verdict: Err(Refusal::Plain {
-            number: 3,
-            place: 2,
-        }),
+        verdict: Err(Refusal::Plain(3, 2)),
     },
     Case {
         under: Under::Sql,
@@ -375,10 +315,7 @@ pub static SQL_CASES: [Case; 70] = [
         row: b"@{aB}",
         times: 1,
         rest: b"",
-        verdict: Err(Refusal::Plain {
-            number: 3,
-            place: 3,
-        }),
+        verdict: Err(Refusal::Plain(3, 3)),
     },
     Case {
         under: Under::Sql,
@@ -386,10 +323,7 @@ pub static SQL_CASES: [Case; 70] = [
         row: b"@{a b}",
         times: 1,
         rest: b"",
-        verdict: Err(Refusal::Plain {
-            number: 3,
-            place: 3,
-        }),
+        verdict: Err(Refusal::Plain(3, 3)),
     },
     Case {
         under: Under::Sql,
@@ -397,10 +331,7 @@ pub static SQL_CASES: [Case; 70] = [
         row: b"@{a@{b}}",
         times: 1,
         rest: b"",
-        verdict: Err(Refusal::Plain {
-            number: 3,
-            place: 3,
-        }),
+        verdict: Err(Refusal::Plain(3, 3)),
     },
     Case {
         under: Under::Sql,
@@ -408,10 +339,7 @@ pub static SQL_CASES: [Case; 70] = [
         row: b"@{a}@{B}",
         times: 1,
         rest: b"",
-        verdict: Err(Refusal::Plain {
-            number: 3,
-            place: 6,
-        }),
+        verdict: Err(Refusal::Plain(3, 6)),
     },
     Case {
         under: Under::Sql,
@@ -419,10 +347,7 @@ pub static SQL_CASES: [Case; 70] = [
         row: b"@{a},",
         times: 65,
         rest: b"",
-        verdict: Err(Refusal::Plain {
-            number: 5,
-            place: 320,
-        }),
+        verdict: Err(Refusal::Plain(5, 320)),
     },
     Case {
         under: Under::Sql,
@@ -430,10 +355,7 @@ pub static SQL_CASES: [Case; 70] = [
         row: b"@{a},",
         times: 64,
         rest: b"a@{b}",
-        verdict: Err(Refusal::Plain {
-            number: 5,
-            place: 321,
-        }),
+        verdict: Err(Refusal::Plain(5, 321)),
     },
     Case {
         under: Under::Sql,
@@ -441,10 +363,7 @@ pub static SQL_CASES: [Case; 70] = [
         row: b"@{a},",
         times: 64,
         rest: b"@{1}",
-        verdict: Err(Refusal::Plain {
-            number: 3,
-            place: 322,
-        }),
+        verdict: Err(Refusal::Plain(3, 322)),
     },
     Case {
         under: Under::Sql,
@@ -452,10 +371,7 @@ pub static SQL_CASES: [Case; 70] = [
         row: b"@{a},",
         times: 64,
         rest: b"-@{b}",
-        verdict: Err(Refusal::Plain {
-            number: 6,
-            place: 320,
-        }),
+        verdict: Err(Refusal::Plain(6, 320)),
     },
     Case {
         under: Under::Sql,
@@ -463,10 +379,7 @@ pub static SQL_CASES: [Case; 70] = [
         row: b"-",
         times: 1,
         rest: b"",
-        verdict: Err(Refusal::Plain {
-            number: 6,
-            place: 0,
-        }),
+        verdict: Err(Refusal::Plain(6, 0)),
     },
     Case {
         under: Under::Sql,
@@ -474,10 +387,7 @@ pub static SQL_CASES: [Case; 70] = [
         row: b"a - b",
         times: 1,
         rest: b"",
-        verdict: Err(Refusal::Plain {
-            number: 6,
-            place: 2,
-        }),
+        verdict: Err(Refusal::Plain(6, 2)),
     },
     Case {
         under: Under::Sql,
@@ -485,10 +395,7 @@ pub static SQL_CASES: [Case; 70] = [
         row: b"a'",
         times: 1,
         rest: b"",
-        verdict: Err(Refusal::Plain {
-            number: 6,
-            place: 1,
-        }),
+        verdict: Err(Refusal::Plain(6, 1)),
     },
     Case {
         under: Under::Sql,
@@ -496,10 +403,7 @@ pub static SQL_CASES: [Case; 70] = [
         row: b"a\"",
         times: 1,
         rest: b"",
-        verdict: Err(Refusal::Plain {
-            number: 6,
-            place: 1,
-        }),
+        verdict: Err(Refusal::Plain(6, 1)),
     },
     Case {
         under: Under::Sql,
@@ -507,10 +411,7 @@ pub static SQL_CASES: [Case; 70] = [
         row: b"'a'\"",
         times: 1,
         rest: b"",
-        verdict: Err(Refusal::Plain {
-            number: 6,
-            place: 3,
-        }),
+        verdict: Err(Refusal::Plain(6, 3)),
     },
     Case {
         under: Under::Sql,
@@ -518,10 +419,7 @@ pub static SQL_CASES: [Case; 70] = [
         row: b"@{a}-",
         times: 1,
         rest: b"",
-        verdict: Err(Refusal::Plain {
-            number: 6,
-            place: 4,
-        }),
+        verdict: Err(Refusal::Plain(6, 4)),
     },
     Case {
         under: Under::Sql,
@@ -529,10 +427,7 @@ pub static SQL_CASES: [Case; 70] = [
         row: b"@{a}b/",
         times: 1,
         rest: b"",
-        verdict: Err(Refusal::Plain {
-            number: 6,
-            place: 5,
-        }),
+        verdict: Err(Refusal::Plain(6, 5)),
     },
     Case {
         under: Under::Sql,
@@ -540,10 +435,7 @@ pub static SQL_CASES: [Case; 70] = [
         row: b"@n-",
         times: 1,
         rest: b"",
-        verdict: Err(Refusal::Plain {
-            number: 6,
-            place: 2,
-        }),
+        verdict: Err(Refusal::Plain(6, 2)),
     },
     Case {
         under: Under::Sql,
@@ -551,10 +443,7 @@ pub static SQL_CASES: [Case; 70] = [
         row: b"a,@@",
         times: 1,
         rest: b"",
-        verdict: Err(Refusal::Plain {
-            number: 6,
-            place: 2,
-        }),
+        verdict: Err(Refusal::Plain(6, 2)),
     },
     Case {
         under: Under::Sql,
@@ -562,10 +451,7 @@ pub static SQL_CASES: [Case; 70] = [
         row: b"\x00",
         times: 1,
         rest: b"",
-        verdict: Err(Refusal::Plain {
-            number: 6,
-            place: 0,
-        }),
+        verdict: Err(Refusal::Plain(6, 0)),
     },
     Case {
         under: Under::Sql,
@@ -573,10 +459,7 @@ pub static SQL_CASES: [Case; 70] = [
         row: b"'\x00'",
         times: 1,
         rest: b"",
-        verdict: Err(Refusal::Plain {
-            number: 6,
-            place: 1,
-        }),
+        verdict: Err(Refusal::Plain(6, 1)),
     },
     Case {
         under: Under::Sql,
@@ -584,10 +467,7 @@ pub static SQL_CASES: [Case; 70] = [
         row: b"'a'\x00",
         times: 1,
         rest: b"",
-        verdict: Err(Refusal::Plain {
-            number: 6,
-            place: 3,
-        }),
+        verdict: Err(Refusal::Plain(6, 3)),
     },
     Case {
         under: Under::Sql,
@@ -595,10 +475,7 @@ pub static SQL_CASES: [Case; 70] = [
         row: b"\xc3",
         times: 1,
         rest: b"",
-        verdict: Err(Refusal::Plain {
-            number: 6,
-            place: 0,
-        }),
+        verdict: Err(Refusal::Plain(6, 0)),
     },
     Case {
         under: Under::Sql,
@@ -606,10 +483,7 @@ pub static SQL_CASES: [Case; 70] = [
         row: b"a@{b}",
         times: 1,
         rest: b"",
-        verdict: Err(Refusal::Plain {
-            number: 7,
-            place: 1,
-        }),
+        verdict: Err(Refusal::Plain(7, 1)),
     },
     Case {
         under: Under::Sql,
@@ -617,10 +491,7 @@ pub static SQL_CASES: [Case; 70] = [
         row: b"@{a}@{b}",
         times: 1,
         rest: b"",
-        verdict: Err(Refusal::Plain {
-            number: 7,
-            place: 4,
-        }),
+        verdict: Err(Refusal::Plain(7, 4)),
     },
     Case {
         under: Under::Sql,
@@ -628,10 +499,7 @@ pub static SQL_CASES: [Case; 70] = [
         row: b"'x'@{a}",
         times: 1,
         rest: b"",
-        verdict: Err(Refusal::Plain {
-            number: 7,
-            place: 3,
-        }),
+        verdict: Err(Refusal::Plain(7, 3)),
     },
     Case {
         under: Under::Sql,
@@ -639,10 +507,7 @@ pub static SQL_CASES: [Case; 70] = [
         row: b"1,2@{a}",
         times: 1,
         rest: b"",
-        verdict: Err(Refusal::Plain {
-            number: 7,
-            place: 3,
-        }),
+        verdict: Err(Refusal::Plain(7, 3)),
     },
     Case {
         under: Under::Sql,
@@ -650,10 +515,7 @@ pub static SQL_CASES: [Case; 70] = [
         row: b"'",
         times: 1,
         rest: b"",
-        verdict: Err(Refusal::Plain {
-            number: 8,
-            place: 1,
-        }),
+        verdict: Err(Refusal::Plain(8, 1)),
     },
     Case {
         under: Under::Sql,
@@ -661,10 +523,7 @@ pub static SQL_CASES: [Case; 70] = [
         row: b"'abc",
         times: 1,
         rest: b"",
-        verdict: Err(Refusal::Plain {
-            number: 8,
-            place: 4,
-        }),
+        verdict: Err(Refusal::Plain(8, 4)),
     },
     Case {
         under: Under::Sql,
@@ -672,10 +531,7 @@ pub static SQL_CASES: [Case; 70] = [
         row: b"'@{a}",
         times: 1,
         rest: b"",
-        verdict: Err(Refusal::Plain {
-            number: 8,
-            place: 5,
-        }),
+        verdict: Err(Refusal::Plain(8, 5)),
     },
     Case {
         under: Under::Sql,
@@ -683,10 +539,7 @@ pub static SQL_CASES: [Case; 70] = [
         row: b"'@n",
         times: 1,
         rest: b"",
-        verdict: Err(Refusal::Plain {
-            number: 8,
-            place: 3,
-        }),
+        verdict: Err(Refusal::Plain(8, 3)),
     },
     Case {
         under: Under::Sql,
@@ -694,10 +547,7 @@ pub static SQL_CASES: [Case; 70] = [
         row: b"@{a}'",
         times: 1,
         rest: b"",
-        verdict: Err(Refusal::Plain {
-            number: 8,
-            place: 5,
-        }),
+        verdict: Err(Refusal::Plain(8, 5)),
     },
     Case {
         under: Under::Sql,
@@ -705,10 +555,7 @@ pub static SQL_CASES: [Case; 70] = [
         row: b"a-@x",
         times: 1,
         rest: b"",
-        verdict: Err(Refusal::Plain {
-            number: 6,
-            place: 1,
-        }),
+        verdict: Err(Refusal::Plain(6, 1)),
     },
     Case {
         under: Under::Sql,
@@ -716,10 +563,7 @@ pub static SQL_CASES: [Case; 70] = [
         row: b"@x-",
         times: 1,
         rest: b"",
-        verdict: Err(Refusal::Plain {
-            number: 2,
-            place: 0,
-        }),
+        verdict: Err(Refusal::Plain(2, 0)),
     },
     Case {
         under: Under::Sql,
@@ -727,10 +571,7 @@ pub static SQL_CASES: [Case; 70] = [
         row: b"'@{A}",
         times: 1,
         rest: b"",
-        verdict: Err(Refusal::Plain {
-            number: 3,
-            place: 3,
-        }),
+        verdict: Err(Refusal::Plain(3, 3)),
     },
     Case {
         under: Under::Sql,
@@ -738,10 +579,7 @@ pub static SQL_CASES: [Case; 70] = [
         row: b"a@{b}-",
         times: 1,
         rest: b"",
-        verdict: Err(Refusal::Plain {
-            number: 7,
-            place: 1,
-        }),
+        verdict: Err(Refusal::Plain(7, 1)),
     },
 ];
 
@@ -824,10 +662,7 @@ pub static SHELL_CASES: [Case; 23] = [
         row: b"@{a}",
         times: 65,
         rest: b"",
-        verdict: Err(Refusal::Plain {
-            number: 5,
-            place: 256,
-        }),
+        verdict: Err(Refusal::Plain(5, 256)),
     },
     Case {
         under: Under::Shell,
@@ -843,10 +678,7 @@ pub static SHELL_CASES: [Case; 23] = [
         row: b"a",
         times: 3585,
         rest: b"",
-        verdict: Err(Refusal::Plain {
-            number: 1,
-            place: 3584,
-        }),
+        verdict: Err(Refusal::Plain(1, 3584)),
     },
     Case {
         under: Under::Shell,
@@ -854,10 +686,7 @@ pub static SHELL_CASES: [Case; 23] = [
         row: b"a $b",
         times: 1,
         rest: b"",
-        verdict: Err(Refusal::Plain {
-            number: 6,
-            place: 2,
-        }),
+        verdict: Err(Refusal::Plain(6, 2)),
     },
     Case {
         under: Under::Shell,
@@ -865,10 +694,7 @@ pub static SHELL_CASES: [Case; 23] = [
         row: b"\"$b\"",
         times: 1,
         rest: b"",
-        verdict: Err(Refusal::Plain {
-            number: 6,
-            place: 1,
-        }),
+        verdict: Err(Refusal::Plain(6, 1)),
     },
     Case {
         under: Under::Shell,
@@ -876,10 +702,7 @@ pub static SHELL_CASES: [Case; 23] = [
         row: b"a #b",
         times: 1,
         rest: b"",
-        verdict: Err(Refusal::Plain {
-            number: 6,
-            place: 2,
-        }),
+        verdict: Err(Refusal::Plain(6, 2)),
     },
     Case {
         under: Under::Shell,
@@ -887,10 +710,7 @@ pub static SHELL_CASES: [Case; 23] = [
         row: b"a @r",
         times: 1,
         rest: b"",
-        verdict: Err(Refusal::Plain {
-            number: 6,
-            place: 2,
-        }),
+        verdict: Err(Refusal::Plain(6, 2)),
     },
     Case {
         under: Under::Shell,
@@ -898,10 +718,7 @@ pub static SHELL_CASES: [Case; 23] = [
         row: b"'\x00'",
         times: 1,
         rest: b"",
-        verdict: Err(Refusal::Plain {
-            number: 6,
-            place: 1,
-        }),
+        verdict: Err(Refusal::Plain(6, 1)),
     },
     Case {
         under: Under::Shell,
@@ -909,10 +726,7 @@ pub static SHELL_CASES: [Case; 23] = [
         row: b"\\@{a}",
         times: 1,
         rest: b"",
-        verdict: Err(Refusal::Plain {
-            number: 7,
-            place: 1,
-        }),
+        verdict: Err(Refusal::Plain(7, 1)),
     },
     Case {
         under: Under::Shell,
@@ -920,10 +734,7 @@ pub static SHELL_CASES: [Case; 23] = [
         row: b"a\\@{a}",
         times: 1,
         rest: b"",
-        verdict: Err(Refusal::Plain {
-            number: 7,
-            place: 2,
-        }),
+        verdict: Err(Refusal::Plain(7, 2)),
     },
     Case {
         under: Under::Shell,
@@ -931,10 +742,7 @@ pub static SHELL_CASES: [Case; 23] = [
         row: b"\"\\@{a}\"",
         times: 1,
         rest: b"",
-        verdict: Err(Refusal::Plain {
-            number: 7,
-            place: 2,
-        }),
+        verdict: Err(Refusal::Plain(7, 2)),
     },
     Case {
         under: Under::Shell,
@@ -942,10 +750,7 @@ pub static SHELL_CASES: [Case; 23] = [
         row: b"a '",
         times: 1,
         rest: b"",
-        verdict: Err(Refusal::Plain {
-            number: 8,
-            place: 3,
-        }),
+        verdict: Err(Refusal::Plain(8, 3)),
     },
     Case {
         under: Under::Shell,
@@ -953,10 +758,7 @@ pub static SHELL_CASES: [Case; 23] = [
         row: b"\"a@{b}",
         times: 1,
         rest: b"",
-        verdict: Err(Refusal::Plain {
-            number: 8,
-            place: 6,
-        }),
+        verdict: Err(Refusal::Plain(8, 6)),
     },
     Case {
         under: Under::Shell,
@@ -964,10 +766,7 @@ pub static SHELL_CASES: [Case; 23] = [
         row: b"a\\",
         times: 1,
         rest: b"",
-        verdict: Err(Refusal::Plain {
-            number: 8,
-            place: 2,
-        }),
+        verdict: Err(Refusal::Plain(8, 2)),
     },
 ];
 
@@ -1034,10 +833,7 @@ pub static CSV_CASES: [Case; 19] = [
         row: b"@{a},",
         times: 65,
         rest: b"",
-        verdict: Err(Refusal::Plain {
-            number: 5,
-            place: 320,
-        }),
+        verdict: Err(Refusal::Plain(5, 320)),
     },
     Case {
         under: Under::Csv,
@@ -1045,10 +841,7 @@ pub static CSV_CASES: [Case; 19] = [
         row: b"@{v}a",
         times: 1,
         rest: b"",
-        verdict: Err(Refusal::Plain {
-            number: 6,
-            place: 4,
-        }),
+        verdict: Err(Refusal::Plain(6, 4)),
     },
     Case {
         under: Under::Csv,
@@ -1056,10 +849,7 @@ pub static CSV_CASES: [Case; 19] = [
         row: b"@{v}@{w}",
         times: 1,
         rest: b"",
-        verdict: Err(Refusal::Plain {
-            number: 7,
-            place: 4,
-        }),
+        verdict: Err(Refusal::Plain(7, 4)),
     },
     Case {
         under: Under::Csv,
@@ -1067,10 +857,7 @@ pub static CSV_CASES: [Case; 19] = [
         row: b"a\"",
         times: 1,
         rest: b"",
-        verdict: Err(Refusal::Plain {
-            number: 6,
-            place: 1,
-        }),
+        verdict: Err(Refusal::Plain(6, 1)),
     },
     Case {
         under: Under::Csv,
@@ -1078,10 +865,7 @@ pub static CSV_CASES: [Case; 19] = [
         row: b"\"a\"b",
         times: 1,
         rest: b"",
-        verdict: Err(Refusal::Plain {
-            number: 6,
-            place: 3,
-        }),
+        verdict: Err(Refusal::Plain(6, 3)),
     },
     Case {
         under: Under::Csv,
@@ -1089,10 +873,7 @@ pub static CSV_CASES: [Case; 19] = [
         row: b"a@n",
         times: 1,
         rest: b"",
-        verdict: Err(Refusal::Plain {
-            number: 6,
-            place: 1,
-        }),
+        verdict: Err(Refusal::Plain(6, 1)),
     },
     Case {
         under: Under::Csv,
@@ -1100,10 +881,7 @@ pub static CSV_CASES: [Case; 19] = [
         row: b"a@rb",
         times: 1,
         rest: b"",
-        verdict: Err(Refusal::Plain {
-            number: 6,
-            place: 3,
-        }),
+        verdict: Err(Refusal::Plain(6, 3)),
     },
     Case {
         under: Under::Csv,
@@ -1111,10 +889,7 @@ pub static CSV_CASES: [Case; 19] = [
         row: b"@r@{v}",
         times: 1,
         rest: b"",
-        verdict: Err(Refusal::Plain {
-            number: 7,
-            place: 2,
-        }),
+        verdict: Err(Refusal::Plain(7, 2)),
     },
     Case {
         under: Under::Csv,
@@ -1122,10 +897,7 @@ pub static CSV_CASES: [Case; 19] = [
         row: b"a@r",
         times: 1,
         rest: b"",
-        verdict: Err(Refusal::Plain {
-            number: 8,
-            place: 3,
-        }),
+        verdict: Err(Refusal::Plain(8, 3)),
     },
     Case {
         under: Under::Csv,
@@ -1133,10 +905,7 @@ pub static CSV_CASES: [Case; 19] = [
         row: b"a\x09b",
         times: 1,
         rest: b"",
-        verdict: Err(Refusal::Plain {
-            number: 6,
-            place: 1,
-        }),
+        verdict: Err(Refusal::Plain(6, 1)),
     },
     Case {
         under: Under::Csv,
@@ -1144,10 +913,7 @@ pub static CSV_CASES: [Case; 19] = [
         row: b"a\x7f",
         times: 1,
         rest: b"",
-        verdict: Err(Refusal::Plain {
-            number: 6,
-            place: 1,
-        }),
+        verdict: Err(Refusal::Plain(6, 1)),
     },
     Case {
         under: Under::Csv,
@@ -1155,9 +921,6 @@ pub static CSV_CASES: [Case; 19] = [
         row: b"\"a@{v}",
         times: 1,
         rest: b"",
-        verdict: Err(Refusal::Plain {
-            number: 8,
-            place: 6,
-        }),
+        verdict: Err(Refusal::Plain(8, 6)),
     },
 ];
