@@ -14,18 +14,16 @@ pub struct Check {
     under: Under,
     row: &'static [u8],
     times: usize,
-    expected: Result<usize, Fault>,
+    expected: Answer<'static>,
 }
 
 impl fmt::Display for Check {
     fn fmt<W: fmt::Write>(&self, f: &mut fmt::Formatter<W>) -> fmt::Result {
-        let under = self.under;
-        let row = Quoted(self.row);
-        if self.times == 1 {
-            return write!(f, "{under} {row}");
+        write!(f, "{} {}", self.under, Quoted(self.row))?;
+        match self.times {
+            1 => Ok(()),
+            times => write!(f, " {times} times"),
         }
-        let times = self.times;
-        write!(f, "{under} {row} {times} times")
     }
 }
 
@@ -34,68 +32,64 @@ static CHECKS: [Check; 9] = [
         under: Under::Shell,
         row: b"",
         times: 1,
-        expected: Ok(0),
+        expected: Answer::Checked(Ok(0)),
     },
     Check {
         under: Under::Sql,
         row: b"",
         times: 1,
-        expected: Ok(0),
+        expected: Answer::Checked(Ok(0)),
     },
     Check {
         under: Under::Csv,
         row: b"",
         times: 1,
-        expected: Ok(0),
+        expected: Answer::Checked(Ok(0)),
     },
     Check {
         under: Under::Shell,
         row: b"a",
         times: 3584,
-        expected: Ok(0),
+        expected: Answer::Checked(Ok(0)),
     },
     Check {
         under: Under::Shell,
         row: b"a",
         times: 3585,
-        expected: Err(Fault::Template(Flaw::TooLong)),
+        expected: Answer::Checked(Err(Fault::Template(Flaw::TooLong))),
     },
     Check {
         under: Under::Shell,
         row: b"@{a}",
         times: 64,
-        expected: Ok(64),
+        expected: Answer::Checked(Ok(64)),
     },
     Check {
         under: Under::Shell,
         row: b"@{a}",
         times: 65,
-        expected: Err(Fault::Template(Flaw::TooManyHoles { place: 256 })),
+        expected: Answer::Checked(Err(Fault::Template(Flaw::TooManyHoles { place: 256 }))),
     },
     Check {
         under: Under::Sql,
         row: b"@{a}@{b}",
         times: 1,
-        expected: Err(Fault::Template(Flaw::HoleRefused { place: 4 })),
+        expected: Answer::Checked(Err(Fault::Template(Flaw::HoleRefused { place: 4 }))),
     },
     Check {
         under: Under::Csv,
         row: b"@{v}a",
         times: 1,
-        expected: Err(Fault::Template(Flaw::LiteralRefused { place: 4 })),
+        expected: Answer::Checked(Err(Fault::Template(Flaw::LiteralRefused { place: 4 }))),
     },
 ];
 
 pub fn run_checked(rt: &HostRuntime, tally: &mut Tally) -> anyhow::Result<()> {
     for case in &CHECKS {
         let template = case.row.repeat(rt.alloc(), case.times)?;
-        let came = check(Raw::new(template.as_slice()), &case.under).map(|checked| checked.holes());
-        tally.compare(
-            rt,
-            case,
-            &Answer::Checked(came),
-            &Answer::Checked(case.expected),
-        )?;
+        let checked = check(Raw::new(template.as_slice()), &case.under);
+        let came = Answer::Checked(checked.map(|checked| checked.holes()));
+        tally.compare(rt, case, &came, &case.expected)?;
     }
     Ok(())
 }

@@ -22,13 +22,11 @@ pub struct Filled {
 
 impl fmt::Display for Filled {
     fn fmt<W: fmt::Write>(&self, f: &mut fmt::Formatter<W>) -> fmt::Result {
-        let under = self.under;
-        let room = self.room;
-        write!(f, "{under} {}", Quoted(self.template))?;
+        write!(f, "{} {}", self.under, Quoted(self.template))?;
         for value in self.values {
             write!(f, ", {}", Quoted(*value))?;
         }
-        write!(f, ", into {room} bytes")
+        write!(f, ", into {} bytes", self.room)
     }
 }
 

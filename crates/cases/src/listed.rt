@@ -17,10 +17,13 @@ pub struct Listed {
 
 impl fmt::Display for Listed {
     fn fmt<W: fmt::Write>(&self, f: &mut fmt::Formatter<W>) -> fmt::Result {
-        let under = self.under;
-        let text = Quoted(self.text);
-        let room = self.room;
-        write!(f, "{under} lists {text} into {room} bytes")
+        let Listed {
+            under,
+            text,
+            room,
+            ..
+        } = *self;
+        write!(f, "{under} lists {} into {room} bytes", Quoted(text))
     }
 }
 

@@ -27,12 +27,9 @@ pub struct Merging {
 
 impl fmt::Display for Merging {
     fn fmt<W: fmt::Write>(&self, f: &mut fmt::Formatter<W>) -> fmt::Result {
-        let name = self.name;
-        let under = self.under;
-        let place = self.place;
-        let room = self.room;
         let template = Quoted(self.template);
-        write!(f, "{name}: {under} {template} at {place} into {room} bytes")
+        write!(f, "{}: {} {template}", self.name, self.under)?;
+        write!(f, " at {} into {} bytes", self.place, self.room)
     }
 }
 

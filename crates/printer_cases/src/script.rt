@@ -58,10 +58,10 @@ impl fmt::Display for Call {
                 write!(f, "bind {from} to below {to} {}", Quoted(*value))
             }
             Call::BindBy(under, template, hole, value) => {
-                let value = Quoted(*value);
                 write!(
                     f,
-                    "bind {hole} {value} surveyed as {under} {}",
+                    "bind {hole} {} surveyed as {under} {}",
+                    Quoted(*value),
                     Quoted(*template)
                 )
             }
@@ -71,8 +71,7 @@ impl fmt::Display for Call {
             Call::Look(hole) => write!(f, "value {hole}"),
             Call::Clear => write!(f, "clear"),
             Call::Refill(template, value) => {
-                let value = Quoted(*value);
-                write!(f, "open {}, bind 0 {value}", Quoted(*template))
+                write!(f, "open {}, bind 0 {}", Quoted(*template), Quoted(*value))
             }
             Call::Print(room) => write!(f, "print into {room} bytes"),
             Call::PrintSurveyed(room) => write!(f, "print_surveyed into {room} bytes"),

@@ -33,11 +33,9 @@ static VALUED: [Valued; 2] = [
 
 impl Valued {
     fn bytes(&self, heap: Global) -> Result<Vec<u8>, AllocError> {
-        let mut bytes = b"\x01\x00\x01a\x02\x00".to_vec(heap)?;
-        bytes.push(self.len)?;
-        bytes.extend_from_slice(b"x".repeat(heap, self.len.into())?.as_slice())?;
-        bytes.extend_from_slice(END)?;
-        Ok(bytes)
+        let value = b"x".repeat(heap, self.len.into())?;
+        let name: &[u8] = b"\x01\x00\x01a";
+        [name, &[2, 0, self.len], value.as_slice(), END].concat(heap)
     }
 }
 
@@ -93,98 +91,31 @@ impl Named {
 // The record of the name a with the value hi.
 const ONE_PAIR: &[u8; 12] = b"\x01\x00\x01a\x02\x00\x02hi\x03\x00\x00";
 
-// That record cut at each length below its own, and the place where it is refused: the tag of the field that is cut, or
+// Where that record is refused when it is cut after 1, 2 and so on to 11 bytes: at the tag of the field that is cut, or at
 // the length where a field is due.
-#[derive(Clone, Copy)]
-struct Cut {
-    about: &'static str,
-    len: usize,
-    place: usize,
-}
-
-static CUT: [Cut; 11] = [
-    Cut {
-        about: "a record cut after 1 bytes",
-        len: 1,
-        place: 0,
-    },
-    Cut {
-        about: "a record cut after 2 bytes",
-        len: 2,
-        place: 0,
-    },
-    Cut {
-        about: "a record cut after 3 bytes",
-        len: 3,
-        place: 0,
-    },
-    Cut {
-        about: "a record cut after 4 bytes",
-        len: 4,
-        place: 4,
-    },
-    Cut {
-        about: "a record cut after 5 bytes",
-        len: 5,
-        place: 4,
-    },
-    Cut {
-        about: "a record cut after 6 bytes",
-        len: 6,
-        place: 4,
-    },
-    Cut {
-        about: "a record cut after 7 bytes",
-        len: 7,
-        place: 4,
-    },
-    Cut {
-        about: "a record cut after 8 bytes",
-        len: 8,
-        place: 4,
-    },
-    Cut {
-        about: "a record cut after 9 bytes",
-        len: 9,
-        place: 9,
-    },
-    Cut {
-        about: "a record cut after 10 bytes",
-        len: 10,
-        place: 9,
-    },
-    Cut {
-        about: "a record cut after 11 bytes",
-        len: 11,
-        place: 9,
-    },
-];
+const CUT: [usize; 11] = [0, 0, 0, 4, 4, 4, 4, 4, 9, 9, 9];
 
 pub fn run_built(rt: &HostRuntime, tally: &mut Tally) -> anyhow::Result<()> {
     for case in &VALUED {
         let input = case.bytes(rt.alloc())?;
-        tally.tell(
-            rt,
-            &case.about,
-            read_at(input.as_slice(), 0) == case.expected,
-        )?;
+        let came = read_at(input.as_slice(), 0);
+        tally.tell(rt, case.about, came == case.expected)?;
     }
     for case in &NAMED {
         let input = case.bytes(rt.alloc())?;
+        let came = read_at(input.as_slice(), 0);
+        tally.tell(rt, case.about, came == case.expected)?;
+    }
+    for (i, place) in CUT.iter().enumerate() {
+        let cut = &ONE_PAIR[..=i];
+        let about = format_args!("a record cut after {} bytes", cut.len());
         tally.tell(
             rt,
-            &case.about,
-            read_at(input.as_slice(), 0) == case.expected,
+            about,
+            read_at(cut, 0) == Err(Refusal::Plain(20, *place)),
         )?;
     }
-    for case in &CUT {
-        let Cut { about, len, place } = *case;
-        let cut = &ONE_PAIR[..len.min(ONE_PAIR.len())];
-        let expected = Err(Refusal::Plain(20, place));
-        tally.tell(rt, about, read_at(cut, 0) == expected)?;
-    }
-    let largest = read_at(ONE_PAIR, usize::MAX);
-    let expected = Err(Refusal::Plain(20, 12));
-    tally.tell(rt, "the largest place", largest == expected)?;
+    let came = read_at(ONE_PAIR, usize::MAX);
+    tally.tell(rt, "the largest place", came == Err(Refusal::Plain(20, 12)))?;
     Ok(())
 }
