@@ -17,13 +17,8 @@ pub struct Listed {
 
 impl fmt::Display for Listed {
     fn fmt<W: fmt::Write>(&self, f: &mut fmt::Formatter<W>) -> fmt::Result {
-        let Listed {
-            under,
-            text,
-            room,
-            ..
-        } = *self;
-        write!(f, "{under} lists {} into {room} bytes", Quoted(text))
+        let text = Quoted(self.text);
+        write!(f, "{} lists {text} into {} bytes", self.under, self.room)
     }
 }
 
