@@ -1,5 +1,5 @@
 // What comes of a call.
-use crate::shown::Quoted;
+use casework::shown::Quoted;
 use fault::Fault;
 use merge::merged::Merged;
 use std::fmt;
@@ -9,50 +9,31 @@ pub const UNTOUCHED: u8 = b'~';
 
 #[derive(Clone, Copy, PartialEq)]
 pub enum Answer<'a> {
-    // The template is accepted, and has so many holes.
-    Holes(usize),
-    // The template is refused.
-    Refused(Fault),
-    // So many bytes were written; the whole output after the call.
-    Written(usize, &'a [u8]),
-    // A record was merged; the whole output after the call.
-    Merged(Merged, &'a [u8]),
-    // The input ends at the place; the whole output after the call.
-    End(&'a [u8]),
-    // Nothing was written; the whole output after the call.
-    Unwritten(Fault, &'a [u8]),
+    // Of a check: how many holes the template has.
+    Checked(Result<usize, Fault>),
+    // Of a print or a listing: how many bytes were written, and the whole output after the call.
+    Written(Result<usize, Fault>, &'a [u8]),
+    // Of a merge: what was merged, if the input does not end at the place, and the whole output after the call.
+    Merged(Result<Option<Merged>, Fault>, &'a [u8]),
     // There are values on the sheet after a merge.
     SheetLeft,
-}
-
-// The answer of `print` and of `list`.
-pub fn written<'a>(res: Result<usize, Fault>, output: &'a [u8]) -> Answer<'a> {
-    match res {
-        Ok(len) => Answer::Written(len, output),
-        Err(fault) => Answer::Unwritten(fault, output),
-    }
-}
-
-// The answer of `merge`.
-pub fn merged<'a>(res: Result<Option<Merged>, Fault>, output: &'a [u8]) -> Answer<'a> {
-    match res {
-        Ok(Some(merged)) => Answer::Merged(merged, output),
-        Ok(None) => Answer::End(output),
-        Err(fault) => Answer::Unwritten(fault, output),
-    }
 }
 
 impl fmt::Display for Answer<'_> {
     fn fmt<W: fmt::Write>(&self, f: &mut fmt::Formatter<W>) -> fmt::Result {
         match self {
-            Answer::Holes(count) => write!(f, "checked, {count} holes"),
-            Answer::Refused(fault) => write!(f, "refused {fault}"),
-            Answer::Written(len, output) => write!(f, "{len} bytes, output {}", Quoted(*output)),
-            Answer::Merged(Merged { next, len }, output) => {
+            Answer::Checked(Ok(count)) => write!(f, "checked, {count} holes"),
+            Answer::Checked(Err(fault)) => write!(f, "refused {fault}"),
+            Answer::Written(Ok(len), output) => write!(
+                f,
+                "{len} bytes, output {}",
+                Quoted(*output)
+            ),
+            Answer::Merged(Ok(Some(Merged { next, len })), output) => {
                 write!(f, "{len} bytes, next {next}, output {}", Quoted(*output))
             }
-            Answer::End(output) => write!(f, "end, output {}", Quoted(*output)),
-            Answer::Unwritten(fault, output) => {
+            Answer::Merged(Ok(None), output) => write!(f, "end, output {}", Quoted(*output)),
+            Answer::Written(Err(fault), output) | Answer::Merged(Err(fault), output) => {
                 write!(f, "refused {fault}, output {}", Quoted(*output))
             }
             Answer::SheetLeft => write!(f, "values are left on the sheet"),

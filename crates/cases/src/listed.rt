@@ -1,13 +1,9 @@
 // The texts of `filled`, read again: each token as its kind, its length in two bytes, and its bytes.
-use crate::Tally;
-use crate::answer::{Answer, UNTOUCHED, written};
-use crate::shown::Quoted;
-use crate::under::Under;
-use csv_host::Csv;
-use fault::Fault;
+use crate::answer::{Answer, UNTOUCHED};
+use casework::shown::Quoted;
+use casework::tally::Tally;
+use casework::under::Under;
 use reading::list;
-use shell::Shell;
-use sql::Sql;
 use std::fmt;
 
 // A text is listed into an output of so many bytes.
@@ -21,10 +17,8 @@ pub struct Listed {
 
 impl fmt::Display for Listed {
     fn fmt<W: fmt::Write>(&self, f: &mut fmt::Formatter<W>) -> fmt::Result {
-        let under = self.under;
         let text = Quoted(self.text);
-        let room = self.room;
-        write!(f, "{under} lists {text} into {room} bytes")
+        write!(f, "{} lists {text} into {} bytes", self.under, self.room)
     }
 }
 
@@ -33,60 +27,52 @@ static LISTED: [Listed; 7] = [
         under: Under::Shell,
         text: b"",
         room: 0,
-        expected: Answer::Written(0, b""),
+        expected: Answer::Written(Ok(0), b""),
     },
     Listed {
         under: Under::Sql,
         text: b"",
         room: 0,
-        expected: Answer::Written(0, b""),
+        expected: Answer::Written(Ok(0), b""),
     },
     Listed {
         under: Under::Csv,
         text: b"",
         room: 0,
-        expected: Answer::Written(0, b""),
+        expected: Answer::Written(Ok(0), b""),
     },
     Listed {
         under: Under::Shell,
         text: b"echo ''",
         room: 10,
-        expected: Answer::Written(10, b"\x01\x00\x04echo\x01\x00\x00"),
+        expected: Answer::Written(Ok(10), b"\x01\x00\x04echo\x01\x00\x00"),
     },
     Listed {
         under: Under::Shell,
         text: b"\"\\$5\"",
         room: 5,
-        expected: Answer::Written(5, b"\x01\x00\x02$5"),
+        expected: Answer::Written(Ok(5), b"\x01\x00\x02$5"),
     },
     Listed {
         under: Under::Sql,
         text: b"'x''y'",
         room: 6,
-        expected: Answer::Written(6, b"\x02\x00\x03x'y"),
+        expected: Answer::Written(Ok(6), b"\x02\x00\x03x'y"),
     },
     Listed {
         under: Under::Csv,
         text: b"\"a,\"",
         room: 8,
-        expected: Answer::Written(8, b"\x01\x00\x02a,\x02\x00\x00"),
+        expected: Answer::Written(Ok(8), b"\x01\x00\x02a,\x02\x00\x00"),
     },
 ];
-
-fn list_under(case: &Listed, output: &mut [u8]) -> Result<usize, Fault> {
-    match case.under {
-        Under::Shell => list(&Shell, case.text, output),
-        Under::Sql => list(&Sql, case.text, output),
-        Under::Csv => list(&Csv, case.text, output),
-    }
-}
 
 pub fn run_listed(rt: &HostRuntime, tally: &mut Tally) -> anyhow::Result<()> {
     for case in &LISTED {
         let mut output = vec![in rt.alloc(); UNTOUCHED; case.room]?;
-        let result = list_under(case, output.as_mut_slice());
-        let came = written(result, output.as_slice());
-        tally.tell(rt, case, came, case.expected)?;
+        let listed = list(&case.under, case.text, output.as_mut_slice());
+        let came = Answer::Written(listed, output.as_slice());
+        tally.compare(rt, case, &came, &case.expected)?;
     }
     Ok(())
 }

@@ -1,12 +1,11 @@
 // Records that are merged.
-use crate::Tally;
 use crate::answer::Answer;
 use crate::inputs::{BOTH, COMMA, ELM, NO_PAIRS, TWO};
-use crate::merging::{Merging, run_merging};
-use crate::under::Under;
+use crate::merging::Merging;
+use casework::under::Under;
 use merge::merged::Merged;
 
-static MERGED: [Merging; 10] = [
+pub static MERGED: [Merging; 10] = [
     Merging {
         name: "both names",
         under: Under::Sql,
@@ -14,7 +13,7 @@ static MERGED: [Merging; 10] = [
         input: BOTH,
         place: 0,
         room: 15,
-        expected: Answer::Merged(Merged { next: 26, len: 13 }, b"('Elm', '42')~~"),
+        expected: Answer::Merged(Ok(Some(Merged { next: 26, len: 13 })), b"('Elm', '42')~~"),
     },
     Merging {
         name: "an output that just fits",
@@ -23,7 +22,7 @@ static MERGED: [Merging; 10] = [
         input: BOTH,
         place: 0,
         room: 13,
-        expected: Answer::Merged(Merged { next: 26, len: 13 }, b"('Elm', '42')"),
+        expected: Answer::Merged(Ok(Some(Merged { next: 26, len: 13 })), b"('Elm', '42')"),
     },
     Merging {
         name: "a name that the template repeats",
@@ -32,7 +31,10 @@ static MERGED: [Merging; 10] = [
         input: ELM,
         place: 0,
         room: 18,
-        expected: Answer::Merged(Merged { next: 16, len: 18 }, b"cp 'Elm' 'Elm'.bak"),
+        expected: Answer::Merged(
+            Ok(Some(Merged { next: 16, len: 18 })),
+            b"cp 'Elm' 'Elm'.bak",
+        ),
     },
     Merging {
         name: "the first of two records",
@@ -41,7 +43,7 @@ static MERGED: [Merging; 10] = [
         input: TWO,
         place: 0,
         room: 16,
-        expected: Answer::Merged(Merged { next: 26, len: 13 }, b"('Elm', '42')~~~"),
+        expected: Answer::Merged(Ok(Some(Merged { next: 26, len: 13 })), b"('Elm', '42')~~~"),
     },
     Merging {
         name: "the second of two records, with its names in another order",
@@ -50,7 +52,7 @@ static MERGED: [Merging; 10] = [
         input: TWO,
         place: 26,
         room: 16,
-        expected: Answer::Merged(Merged { next: 54, len: 16 }, b"('O''Hara', '7')"),
+        expected: Answer::Merged(Ok(Some(Merged { next: 54, len: 16 })), b"('O''Hara', '7')"),
     },
     Merging {
         name: "a name that the template lacks",
@@ -59,7 +61,7 @@ static MERGED: [Merging; 10] = [
         input: BOTH,
         place: 0,
         room: 5,
-        expected: Answer::Merged(Merged { next: 26, len: 4 }, b"'42'~"),
+        expected: Answer::Merged(Ok(Some(Merged { next: 26, len: 4 })), b"'42'~"),
     },
     Merging {
         name: "a template without holes",
@@ -68,7 +70,7 @@ static MERGED: [Merging; 10] = [
         input: BOTH,
         place: 0,
         room: 8,
-        expected: Answer::Merged(Merged { next: 26, len: 8 }, b"SELECT 1"),
+        expected: Answer::Merged(Ok(Some(Merged { next: 26, len: 8 })), b"SELECT 1"),
     },
     Merging {
         name: "a record without pairs, and the empty template",
@@ -77,7 +79,7 @@ static MERGED: [Merging; 10] = [
         input: NO_PAIRS,
         place: 0,
         room: 0,
-        expected: Answer::Merged(Merged { next: 3, len: 0 }, b""),
+        expected: Answer::Merged(Ok(Some(Merged { next: 3, len: 0 })), b""),
     },
     Merging {
         name: "a comma between quotes",
@@ -86,7 +88,7 @@ static MERGED: [Merging; 10] = [
         input: COMMA,
         place: 0,
         room: 8,
-        expected: Answer::Merged(Merged { next: 26, len: 8 }, b"\"at a,b\""),
+        expected: Answer::Merged(Ok(Some(Merged { next: 26, len: 8 })), b"\"at a,b\""),
     },
     Merging {
         name: "a quote in a value",
@@ -95,13 +97,9 @@ static MERGED: [Merging; 10] = [
         input: TWO,
         place: 26,
         room: 16,
-        expected: Answer::Merged(Merged { next: 54, len: 16 }, b"log 'O'\\''Hara'\n"),
+        expected: Answer::Merged(
+            Ok(Some(Merged { next: 54, len: 16 })),
+            b"log 'O'\\''Hara'\n",
+        ),
     },
 ];
-
-pub fn run_merged(rt: &HostRuntime, tally: &mut Tally) -> anyhow::Result<()> {
-    for case in &MERGED {
-        run_merging(rt, tally, case)?;
-    }
-    Ok(())
-}

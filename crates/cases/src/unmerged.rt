@@ -1,12 +1,11 @@
 // Records that are not merged: the output stays as it was, and the sheet is cleared.
-use crate::Tally;
 use crate::answer::Answer;
 use crate::inputs::{BOTH, COMMA, CUT, ELM, NO_PAIRS, THEN_ELM};
-use crate::merging::{Merging, run_merging};
-use crate::under::Under;
+use crate::merging::Merging;
+use casework::under::Under;
 use fault::{Fault, Flaw};
 
-static UNMERGED: [Merging; 13] = [
+pub static UNMERGED: [Merging; 13] = [
     Merging {
         name: "a name that the record lacks",
         under: Under::Sql,
@@ -14,8 +13,8 @@ static UNMERGED: [Merging; 13] = [
         input: ELM,
         place: 0,
         room: 20,
-        expected: Answer::Unwritten(
-            Fault::NameMissing { hole: 1, place: 13 },
+        expected: Answer::Merged(
+            Err(Fault::NameMissing { hole: 1, place: 13 }),
             b"~~~~~~~~~~~~~~~~~~~~",
         ),
     },
@@ -26,7 +25,7 @@ static UNMERGED: [Merging; 13] = [
         input: THEN_ELM,
         place: 26,
         room: 4,
-        expected: Answer::Unwritten(Fault::NameMissing { hole: 1, place: 39 }, b"~~~~"),
+        expected: Answer::Merged(Err(Fault::NameMissing { hole: 1, place: 39 }), b"~~~~"),
     },
     Merging {
         name: "a record without pairs",
@@ -35,7 +34,7 @@ static UNMERGED: [Merging; 13] = [
         input: NO_PAIRS,
         place: 0,
         room: 4,
-        expected: Answer::Unwritten(Fault::NameMissing { hole: 0, place: 0 }, b"~~~~"),
+        expected: Answer::Merged(Err(Fault::NameMissing { hole: 0, place: 0 }), b"~~~~"),
     },
     Merging {
         name: "a value that is turned away",
@@ -44,7 +43,7 @@ static UNMERGED: [Merging; 13] = [
         input: COMMA,
         place: 0,
         room: 4,
-        expected: Answer::Unwritten(Fault::ByteTurnedAway { hole: 1, place: 1 }, b"~~~~"),
+        expected: Answer::Merged(Err(Fault::ByteTurnedAway { hole: 1, place: 1 }), b"~~~~"),
     },
     Merging {
         name: "a value that is turned away before a name that is missing",
@@ -53,7 +52,7 @@ static UNMERGED: [Merging; 13] = [
         input: COMMA,
         place: 0,
         room: 4,
-        expected: Answer::Unwritten(Fault::ByteTurnedAway { hole: 0, place: 1 }, b"~~~~"),
+        expected: Answer::Merged(Err(Fault::ByteTurnedAway { hole: 0, place: 1 }), b"~~~~"),
     },
     Merging {
         name: "a name that is missing before a value that is turned away",
@@ -62,7 +61,7 @@ static UNMERGED: [Merging; 13] = [
         input: COMMA,
         place: 0,
         room: 4,
-        expected: Answer::Unwritten(Fault::NameMissing { hole: 0, place: 23 }, b"~~~~"),
+        expected: Answer::Merged(Err(Fault::NameMissing { hole: 0, place: 23 }), b"~~~~"),
     },
     Merging {
         name: "an output that is one byte short",
@@ -71,7 +70,7 @@ static UNMERGED: [Merging; 13] = [
         input: BOTH,
         place: 0,
         room: 12,
-        expected: Answer::Unwritten(Fault::OutputTooShort { needed: 13 }, b"~~~~~~~~~~~~"),
+        expected: Answer::Merged(Err(Fault::OutputTooShort { needed: 13 }), b"~~~~~~~~~~~~"),
     },
     Merging {
         name: "the input's end",
@@ -80,7 +79,7 @@ static UNMERGED: [Merging; 13] = [
         input: BOTH,
         place: 26,
         room: 4,
-        expected: Answer::End(b"~~~~"),
+        expected: Answer::Merged(Ok(None), b"~~~~"),
     },
     Merging {
         name: "an empty input",
@@ -89,7 +88,7 @@ static UNMERGED: [Merging; 13] = [
         input: b"",
         place: 0,
         room: 8,
-        expected: Answer::End(b"~~~~~~~~"),
+        expected: Answer::Merged(Ok(None), b"~~~~~~~~"),
     },
     Merging {
         name: "a place past the end",
@@ -98,7 +97,7 @@ static UNMERGED: [Merging; 13] = [
         input: BOTH,
         place: 27,
         room: 4,
-        expected: Answer::Unwritten(Fault::FieldCutShort { place: 26 }, b"~~~~"),
+        expected: Answer::Merged(Err(Fault::FieldCutShort { place: 26 }), b"~~~~"),
     },
     Merging {
         name: "a record without its end",
@@ -107,7 +106,7 @@ static UNMERGED: [Merging; 13] = [
         input: CUT,
         place: 0,
         room: 4,
-        expected: Answer::Unwritten(Fault::FieldCutShort { place: 13 }, b"~~~~"),
+        expected: Answer::Merged(Err(Fault::FieldCutShort { place: 13 }), b"~~~~"),
     },
     Merging {
         name: "a template that is refused, and a place past the end",
@@ -116,7 +115,10 @@ static UNMERGED: [Merging; 13] = [
         input: BOTH,
         place: 27,
         room: 4,
-        expected: Answer::Unwritten(Fault::Template(Flaw::HoleRefused { place: 7 }), b"~~~~"),
+        expected: Answer::Merged(
+            Err(Fault::Template(Flaw::HoleRefused { place: 7 })),
+            b"~~~~",
+        ),
     },
     Merging {
         name: "a template that is refused, and the input's end",
@@ -125,13 +127,6 @@ static UNMERGED: [Merging; 13] = [
         input: BOTH,
         place: 26,
         room: 4,
-        expected: Answer::Unwritten(Fault::Template(Flaw::StrayAt { place: 9 }), b"~~~~"),
+        expected: Answer::Merged(Err(Fault::Template(Flaw::StrayAt { place: 9 })), b"~~~~"),
     },
 ];
-
-pub fn run_unmerged(rt: &HostRuntime, tally: &mut Tally) -> anyhow::Result<()> {
-    for case in &UNMERGED {
-        run_merging(rt, tally, case)?;
-    }
-    Ok(())
-}

@@ -1,14 +1,8 @@
 // A script: a template, and calls on a filling of it with the answers that the rules give them.
 use crate::answer::Answer;
-use crate::shown::Quoted;
+use casework::shown::Quoted;
+use casework::under::Under;
 use std::fmt;
-
-#[derive(Clone, Copy)]
-pub enum Under {
-    Shell,
-    Sql,
-    Csv,
-}
 
 #[derive(Clone, Copy)]
 pub enum Call {
@@ -49,13 +43,10 @@ pub struct Script {
     pub finished: &'static [Step],
 }
 
-impl fmt::Display for Under {
+impl fmt::Display for Step {
     fn fmt<W: fmt::Write>(&self, f: &mut fmt::Formatter<W>) -> fmt::Result {
-        match self {
-            Under::Shell => write!(f, "shell"),
-            Under::Sql => write!(f, "sql"),
-            Under::Csv => write!(f, "csv"),
-        }
+        let Step(under, call, _) = self;
+        write!(f, "{under}: {call}")
     }
 }
 
@@ -67,10 +58,10 @@ impl fmt::Display for Call {
                 write!(f, "bind {from} to below {to} {}", Quoted(*value))
             }
             Call::BindBy(under, template, hole, value) => {
-                let value = Quoted(*value);
                 write!(
                     f,
-                    "bind {hole} {value} surveyed as {under} {}",
+                    "bind {hole} {} surveyed as {under} {}",
+                    Quoted(*value),
                     Quoted(*template)
                 )
             }
@@ -80,8 +71,7 @@ impl fmt::Display for Call {
             Call::Look(hole) => write!(f, "value {hole}"),
             Call::Clear => write!(f, "clear"),
             Call::Refill(template, value) => {
-                let value = Quoted(*value);
-                write!(f, "open {}, bind 0 {value}", Quoted(*template))
+                write!(f, "open {}, bind 0 {}", Quoted(*template), Quoted(*value))
             }
             Call::Print(room) => write!(f, "print into {room} bytes"),
             Call::PrintSurveyed(room) => write!(f, "print_surveyed into {room} bytes"),

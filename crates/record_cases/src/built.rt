@@ -1,78 +1,121 @@
 // Records at the limits, built by the program.
-use crate::cases::Expected;
-use crate::{Tally, stands};
+use crate::answer::{Answer, Found, read_at};
+use casework::refusal::Refusal;
+use casework::tally::Tally;
 use std::alloc::{AllocError, Global};
 
 const END: &[u8] = b"\x03\x00\x00";
 
-// The record of the name a with a value of so many bytes, below 256.
-fn with_value(heap: Global, len: u8) -> Result<Vec<u8>, AllocError> {
-    let mut bytes = Vec::new(heap);
-    bytes.extend_from_slice(b"\x01\x00\x01a\x02\x00")?;
-    bytes.extend_from_slice(&[len])?;
-    for _ in 0..len {
-        bytes.extend_from_slice(b"x")?;
+// A record of the name a with a value of so many bytes.
+#[derive(Clone, Copy)]
+struct Valued {
+    about: &'static str,
+    len: u8,
+    expected: Answer,
+}
+
+static VALUED: [Valued; 2] = [
+    Valued {
+        about: "a value of 160 bytes",
+        len: 160,
+        expected: Ok(Some(Found {
+            count: 1,
+            end: 167,
+            next: 170,
+        })),
+    },
+    Valued {
+        about: "a value of 161 bytes",
+        len: 161,
+        expected: Err(Refusal::Plain(24, 4)),
+    },
+];
+
+impl Valued {
+    fn bytes(&self, heap: Global) -> Result<Vec<u8>, AllocError> {
+        let value = b"x".repeat(heap, self.len.into())?;
+        let name: &[u8] = b"\x01\x00\x01a";
+        [name, &[2, 0, self.len], value.as_slice(), END].concat(heap)
     }
-    bytes.extend_from_slice(END)?;
-    Ok(bytes)
 }
 
 // So many pairs of different names of two letters with empty values, eight bytes each, and then the rest.
-fn with_names(heap: Global, count: u8, rest: &[u8]) -> Result<Vec<u8>, AllocError> {
-    let mut bytes = Vec::new(heap);
-    for i in 0..count {
-        let name = [b'a' + i / 26, b'a' + i % 26];
-        bytes.extend_from_slice(b"\x01\x00\x02")?;
-        bytes.extend_from_slice(&name)?;
-        bytes.extend_from_slice(b"\x02\x00\x00")?;
-    }
-    bytes.extend_from_slice(rest)?;
-    Ok(bytes)
+#[derive(Clone, Copy)]
+struct Named {
+    about: &'static str,
+    count: u8,
+    rest: &'static [u8],
+    expected: Answer,
 }
 
-// The record of the name a with the value hi, and for each length below its own the place where the record that is cut
-// there is refused: the tag of the field that is cut, or the length where a field is due.
-const ONE_PAIR: &[u8; 12] = b"\x01\x00\x01a\x02\x00\x02hi\x03\x00\x00";
-
-static CUT: [(&str, usize, usize); 11] = [
-    ("a record cut after 1 bytes", 1, 0),
-    ("a record cut after 2 bytes", 2, 0),
-    ("a record cut after 3 bytes", 3, 0),
-    ("a record cut after 4 bytes", 4, 4),
-    ("a record cut after 5 bytes", 5, 4),
-    ("a record cut after 6 bytes", 6, 4),
-    ("a record cut after 7 bytes", 7, 4),
-    ("a record cut after 8 bytes", 8, 4),
-    ("a record cut after 9 bytes", 9, 9),
-    ("a record cut after 10 bytes", 10, 9),
-    ("a record cut after 11 bytes", 11, 9),
+static NAMED: [Named; 4] = [
+    Named {
+        about: "64 names",
+        count: 64,
+        rest: END,
+        expected: Ok(Some(Found {
+            count: 64,
+            end: 512,
+            next: 515,
+        })),
+    },
+    Named {
+        about: "65 names",
+        count: 65,
+        rest: END,
+        expected: Err(Refusal::Plain(25, 512)),
+    },
+    Named {
+        about: "a bad name after 64",
+        count: 64,
+        rest: b"\x01\x00\x01A",
+        expected: Err(Refusal::Plain(23, 512)),
+    },
+    Named {
+        about: "a name twice after 64",
+        count: 64,
+        rest: b"\x01\x00\x02aa",
+        expected: Err(Refusal::Plain(25, 512)),
+    },
 ];
 
-pub fn run_built(rt: &HostRuntime, tally: &mut Tally) -> anyhow::Result<()> {
-    let heap = rt.alloc();
-    let value = with_value(heap, 160)?;
-    let right = stands(value.as_slice(), 0, Expected::Found(1, 167, 170));
-    tally.tell(rt, "a value of 160 bytes", right)?;
-    let value = with_value(heap, 161)?;
-    let right = stands(value.as_slice(), 0, Expected::Refused(24, 4));
-    tally.tell(rt, "a value of 161 bytes", right)?;
-    let names = with_names(heap, 64, END)?;
-    let right = stands(names.as_slice(), 0, Expected::Found(64, 512, 515));
-    tally.tell(rt, "64 names", right)?;
-    let names = with_names(heap, 65, END)?;
-    let right = stands(names.as_slice(), 0, Expected::Refused(25, 512));
-    tally.tell(rt, "65 names", right)?;
-    let names = with_names(heap, 64, b"\x01\x00\x01A")?;
-    let right = stands(names.as_slice(), 0, Expected::Refused(23, 512));
-    tally.tell(rt, "a bad name after 64", right)?;
-    let names = with_names(heap, 64, b"\x01\x00\x02aa")?;
-    let right = stands(names.as_slice(), 0, Expected::Refused(25, 512));
-    tally.tell(rt, "a name twice after 64", right)?;
-    for (name, len, place) in &CUT {
-        let cut = &ONE_PAIR[0..(*len).min(12)];
-        tally.tell(rt, name, stands(cut, 0, Expected::Refused(20, *place)))?;
+impl Named {
+    fn bytes(&self, heap: Global) -> Result<Vec<u8>, AllocError> {
+        (0..self.count)
+            .flat_map(|i| [1, 0, 2, b'a' + i / 26, b'a' + i % 26, 2, 0, 0])
+            .chain(self.rest.iter().copied())
+            .collect(heap)
     }
-    let right = stands(ONE_PAIR, usize::MAX, Expected::Refused(20, 12));
-    tally.tell(rt, "the largest place", right)?;
+}
+
+// The record of the name a with the value hi.
+const ONE_PAIR: &[u8; 12] = b"\x01\x00\x01a\x02\x00\x02hi\x03\x00\x00";
+
+// Where that record is refused when it is cut after 1, 2 and so on to 11 bytes: at the tag of the field that is cut, or at
+// the length where a field is due.
+const CUT: [usize; 11] = [0, 0, 0, 4, 4, 4, 4, 4, 9, 9, 9];
+
+pub fn run_built(rt: &HostRuntime, tally: &mut Tally) -> anyhow::Result<()> {
+    for case in &VALUED {
+        let input = case.bytes(rt.alloc())?;
+        let came = read_at(input.as_slice(), 0);
+        tally.tell(rt, case.about, came == case.expected)?;
+    }
+    for case in &NAMED {
+        let input = case.bytes(rt.alloc())?;
+        let came = read_at(input.as_slice(), 0);
+        tally.tell(rt, case.about, came == case.expected)?;
+    }
+    for (i, place) in CUT.iter().enumerate() {
+        let cut = &ONE_PAIR[..=i];
+        let about = format_args!("a record cut after {} bytes", cut.len());
+        tally.tell(
+            rt,
+            about,
+            read_at(cut, 0) == Err(Refusal::Plain(20, *place)),
+        )?;
+    }
+    let came = read_at(ONE_PAIR, usize::MAX);
+    tally.tell(rt, "the largest place", came == Err(Refusal::Plain(20, 12)))?;
     Ok(())
 }

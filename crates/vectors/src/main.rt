@@ -4,84 +4,57 @@
 mod line;
 mod vector;
 
-use anyhow::anyhow;
-use csv_host::Csv;
-use host::Host;
-use line::{Line, read_line};
-use shell::Shell;
-use sql::Sql;
+use casework::tally::Tally;
+use casework::under::Under;
+use line::{Line, Unread};
+use std::alloc::AllocError;
 use std::fs;
 use vector::Vector;
 
-// How many vectors were run, and how many of them came out otherwise.
-#[derive(Clone, Copy)]
-struct Tally {
-    run: u64,
-    wrong: u64,
-}
-
-// Runs a vector, if there is one, and prints whether it came out as expected.
-fn settle<H: Host>(
+// Runs a vector, and prints whether it came out as expected.
+fn settle(
     rt: &HostRuntime,
-    name: &str,
-    host: &H,
+    tally: &mut Tally,
+    under: Under,
     vector: &Vector,
-    tally: Tally,
-) -> anyhow::Result<Tally> {
-    if vector.is_blank() {
-        return Ok(tally);
-    }
-    let run = tally.run.saturating_add(1);
-    let about = vector.name.as_str();
-    if vector.comes_true(rt.alloc(), host)? {
-        println!(rt; "as expected: {name}: {about}")?;
-        Ok(Tally { run, ..tally })
-    } else {
-        println!(rt; "WRONG: {name}: {about}")?;
-        let wrong = tally.wrong.saturating_add(1);
-        Ok(Tally { run, wrong })
-    }
+) -> anyhow::Result<()> {
+    let right = vector.comes_true(rt.alloc(), under)?;
+    let name = vector.name.as_str();
+    tally.tell(rt, format_args!("{under}: {name}"), right)?;
+    Ok(())
 }
 
-// Runs the vectors of a file.
-fn run_file<H: Host>(
-    rt: &HostRuntime,
-    name: &str,
-    file: &str,
-    host: &H,
-    before: Tally,
-) -> anyhow::Result<Tally> {
-    let text = fs::read_to_string(rt, file)?;
-    let mut tally = before;
-    let mut vector = Vector::new(rt.alloc());
+// Runs the vectors of a host's file.
+fn run_file(rt: &HostRuntime, tally: &mut Tally, under: Under) -> anyhow::Result<()> {
+    let heap = rt.alloc();
+    let file = format!(in heap; "{under}.txt")?;
+    let text = fs::read_to_string(rt, file.as_str())?;
+    let mut begun = None;
     for line in text.lines() {
-        match read_line(rt.alloc(), line)? {
-            Line::Name(about) => {
-                tally = settle(rt, name, host, &vector, tally)?;
-                vector = Vector::new(rt.alloc());
-                vector.name = about;
+        match (Line::read(heap, line), &mut begun) {
+            (Ok(None), _) => {}
+            (Ok(Some(Line::Name(name))), _) => {
+                if let Some(vector) = begun.replace(Vector::new(heap, name)) {
+                    settle(rt, tally, under, &vector)?;
+                }
             }
-            Line::Blank => {}
-            Line::Bad => {
-                println!(rt; "WRONG: {name}: no line of a vector: {line}")?;
-                let wrong = tally.wrong.saturating_add(1);
-                tally = Tally { wrong, ..tally };
+            (Ok(Some(Line::Part(part))), Some(vector)) => vector.add(&part)?,
+            (Err(Unread::OutOfMemory), _) => return Err(AllocError.into()),
+            (Ok(Some(Line::Part(_))), None) | (Err(Unread::Bad), _) => {
+                tally.flag(rt, format_args!("{under}: no line of a vector: {line}"))?;
             }
-            part => vector.add(&part)?,
         }
     }
-    settle(rt, name, host, &vector, tally)
+    if let Some(vector) = begun {
+        settle(rt, tally, under, &vector)?;
+    }
+    Ok(())
 }
 
 fn main(rt: HostRuntime) -> anyhow::Result<()> {
-    let none = Tally { run: 0, wrong: 0 };
-    let tally = run_file(&rt, "shell", "shell.txt", &Shell, none)?;
-    let tally = run_file(&rt, "sql", "sql.txt", &Sql, tally)?;
-    let tally = run_file(&rt, "csv", "csv.txt", &Csv, tally)?;
-    let Tally { run, wrong } = tally;
-    println!(rt; "{run} vectors, {wrong} wrong")?;
-    if wrong > 0 {
-        return Err(anyhow!("a vector came out otherwise"));
+    let mut tally = Tally::new();
+    for under in [Under::Shell, Under::Sql, Under::Csv] {
+        run_file(&rt, &mut tally, under)?;
     }
-    Ok(())
+    tally.finish(&rt, "vectors", "a vector came out otherwise")
 }

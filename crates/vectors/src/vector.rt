@@ -1,6 +1,7 @@
 // A vector: a text, and what listing it into an output of some room is to do.
-use crate::line::Line;
-use host::Host;
+use crate::line::Part;
+use casework::refusal::Refusal;
+use casework::under::Under;
 use reading::list;
 use std::alloc::{AllocError, Global};
 
@@ -15,15 +16,16 @@ pub struct Vector {
     pub name: String,
     text: Vec<u8>,
     room: usize,
-    // The fields that are to be written, or the number and the place of the refusal.
+    // The fields that are to be written, and the refusal if it is to be refused.
     fields: Vec<u8>,
-    refused: Option<(u8, usize)>,
+    refused: Option<Refusal>,
 }
 
 impl Vector {
-    pub fn new(heap: Global) -> Vector {
+    // A vector of which nothing but its name is known.
+    pub fn new(heap: Global, name: String) -> Vector {
         Vector {
-            name: String::new(heap),
+            name,
             text: Vec::new(heap),
             room: ROOM,
             fields: Vec::new(heap),
@@ -31,50 +33,33 @@ impl Vector {
         }
     }
 
-    // Nothing has been said of it.
-    pub fn is_blank(&self) -> bool {
-        self.name.is_empty()
-    }
-
-    // What a line says of it.
-    pub fn add(&mut self, line: &Line) -> Result<(), AllocError> {
-        match line {
-            Line::Text(times, bytes) => repeat(&mut self.text, *times, bytes.as_slice())?,
-            Line::Fields(times, bytes) => repeat(&mut self.fields, *times, bytes.as_slice())?,
-            Line::Token(kind, bytes) => {
+    // Adds what a line says of it.
+    pub fn add(&mut self, part: &Part) -> Result<(), AllocError> {
+        match part {
+            Part::Text(bytes) => self.text.extend_from_slice(bytes.as_slice())?,
+            Part::Fields(bytes) => self.fields.extend_from_slice(bytes.as_slice())?,
+            Part::Token(kind, bytes) => {
                 let [.., high, low] = bytes.len().to_be_bytes();
                 self.fields.extend_from_slice(&[*kind, high, low])?;
                 self.fields.extend_from_slice(bytes.as_slice())?;
             }
-            Line::Room(room) => self.room = *room,
-            Line::Refused(number, place) => self.refused = Some((*number, *place)),
-            Line::Name(_) | Line::Blank | Line::Bad => {}
+            Part::Room(room) => self.room = *room,
+            Part::Refused(refusal) => self.refused = Some(*refusal),
         }
         Ok(())
     }
 
     // Whether the listing answers as it is to, writes the fields and keeps every other byte of the output.
-    pub fn comes_true<H: Host>(&self, heap: Global, host: &H) -> Result<bool, AllocError> {
+    pub fn comes_true(&self, heap: Global, under: Under) -> Result<bool, AllocError> {
         let mut out = vec![in heap; UNTOUCHED; self.room]?;
-        let answered = match (
-            list(host, self.text.as_slice(), out.as_mut_slice()),
-            self.refused,
-        ) {
-            (Ok(length), None) => length == self.fields.len() && length <= self.room,
-            (Err(fault), Some((number, place))) => {
-                fault.number() == number && fault.place() == place && fault.hole().is_none()
-            }
-            _ => false,
-        };
-        let mut expected = self.fields.clone()?;
-        expected.resize(self.room, UNTOUCHED)?;
-        Ok(answered && out.as_slice() == expected.as_slice())
+        let listed = list(&under, self.text.as_slice(), out.as_mut_slice());
+        let expected = self.refused.map_or(Ok(self.fields.len()), Err);
+        let mut written = self.fields.clone()?;
+        written.resize(self.room, UNTOUCHED)?;
+        Ok(
+            listed.map_err(Refusal::from) == expected
+                && self.fields.len() <= self.room
+                && out.as_slice() == written.as_slice(),
+        )
     }
-}
-
-fn repeat(bytes: &mut Vec<u8>, times: usize, row: &[u8]) -> Result<(), AllocError> {
-    for _ in 0..times {
-        bytes.extend_from_slice(row)?;
-    }
-    Ok(())
 }

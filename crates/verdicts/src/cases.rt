@@ -1,17 +1,12 @@
 // The table: templates, and their verdicts by the rules.
-#[derive(Clone, Copy)]
-pub enum Under {
-    Shell,
-    Sql,
-    Csv,
-}
+use casework::refusal::Refusal;
+use casework::under::Under;
 
+// How many holes an accepted template has, and the body of each of them.
 #[derive(Clone, Copy)]
-pub enum Verdict {
-    // Accepted, with this many holes, all of them with this body.
-    Holes(usize, u8),
-    // Refused: the number and the place.
-    Refused(u8, usize),
+pub struct Holes {
+    pub count: usize,
+    pub body: u8,
 }
 
 // A template under a host: `row`, `times` times, and then `rest`.
@@ -22,7 +17,7 @@ pub struct Case {
     pub row: &'static [u8],
     pub times: usize,
     pub rest: &'static [u8],
-    pub verdict: Verdict,
+    pub verdict: Result<Holes, Refusal>,
 }
 
 pub static SQL_CASES: [Case; 70] = [
@@ -32,7 +27,7 @@ pub static SQL_CASES: [Case; 70] = [
         row: b"",
         times: 1,
         rest: b"",
-        verdict: Verdict::Holes(0, 2),
+        verdict: Ok(Holes { count: 0, body: 2 }),
     },
     Case {
         under: Under::Sql,
@@ -40,7 +35,7 @@ pub static SQL_CASES: [Case; 70] = [
         row: b"INSERT INTO runs VALUES (@{run}, @{depth});",
         times: 1,
         rest: b"",
-        verdict: Verdict::Holes(2, 2),
+        verdict: Ok(Holes { count: 2, body: 2 }),
     },
     Case {
         under: Under::Sql,
@@ -48,7 +43,7 @@ pub static SQL_CASES: [Case; 70] = [
         row: b"@{a}'@{b}'",
         times: 1,
         rest: b"",
-        verdict: Verdict::Holes(2, 2),
+        verdict: Ok(Holes { count: 2, body: 2 }),
     },
     Case {
         under: Under::Sql,
@@ -56,7 +51,7 @@ pub static SQL_CASES: [Case; 70] = [
         row: b"'@{a}'",
         times: 1,
         rest: b"",
-        verdict: Verdict::Holes(1, 2),
+        verdict: Ok(Holes { count: 1, body: 2 }),
     },
     Case {
         under: Under::Sql,
@@ -64,7 +59,7 @@ pub static SQL_CASES: [Case; 70] = [
         row: b"'@{a}@{b}'",
         times: 1,
         rest: b"",
-        verdict: Verdict::Holes(2, 2),
+        verdict: Ok(Holes { count: 2, body: 2 }),
     },
     Case {
         under: Under::Sql,
@@ -72,7 +67,7 @@ pub static SQL_CASES: [Case; 70] = [
         row: b"@{a},@{a}",
         times: 1,
         rest: b"",
-        verdict: Verdict::Holes(2, 2),
+        verdict: Ok(Holes { count: 2, body: 2 }),
     },
     Case {
         under: Under::Sql,
@@ -80,7 +75,7 @@ pub static SQL_CASES: [Case; 70] = [
         row: b"@n@r@t",
         times: 1,
         rest: b"",
-        verdict: Verdict::Holes(0, 2),
+        verdict: Ok(Holes { count: 0, body: 2 }),
     },
     Case {
         under: Under::Sql,
@@ -88,7 +83,7 @@ pub static SQL_CASES: [Case; 70] = [
         row: b"'@@'",
         times: 1,
         rest: b"",
-        verdict: Verdict::Holes(0, 2),
+        verdict: Ok(Holes { count: 0, body: 2 }),
     },
     Case {
         under: Under::Sql,
@@ -96,7 +91,7 @@ pub static SQL_CASES: [Case; 70] = [
         row: b"'it''s'",
         times: 1,
         rest: b"",
-        verdict: Verdict::Holes(0, 2),
+        verdict: Ok(Holes { count: 0, body: 2 }),
     },
     Case {
         under: Under::Sql,
@@ -104,7 +99,7 @@ pub static SQL_CASES: [Case; 70] = [
         row: b"'\xc3\xa9'",
         times: 1,
         rest: b"",
-        verdict: Verdict::Holes(0, 2),
+        verdict: Ok(Holes { count: 0, body: 2 }),
     },
     Case {
         under: Under::Sql,
@@ -112,7 +107,7 @@ pub static SQL_CASES: [Case; 70] = [
         row: b"@{z}",
         times: 1,
         rest: b"",
-        verdict: Verdict::Holes(1, 2),
+        verdict: Ok(Holes { count: 1, body: 2 }),
     },
     Case {
         under: Under::Sql,
@@ -120,7 +115,7 @@ pub static SQL_CASES: [Case; 70] = [
         row: b"@{abcdefghijklmnop}",
         times: 1,
         rest: b"",
-        verdict: Verdict::Holes(1, 2),
+        verdict: Ok(Holes { count: 1, body: 2 }),
     },
     Case {
         under: Under::Sql,
@@ -128,7 +123,7 @@ pub static SQL_CASES: [Case; 70] = [
         row: b"@{a_0__9}",
         times: 1,
         rest: b"",
-        verdict: Verdict::Holes(1, 2),
+        verdict: Ok(Holes { count: 1, body: 2 }),
     },
     Case {
         under: Under::Sql,
@@ -136,7 +131,7 @@ pub static SQL_CASES: [Case; 70] = [
         row: b"@{a},",
         times: 64,
         rest: b"",
-        verdict: Verdict::Holes(64, 2),
+        verdict: Ok(Holes { count: 64, body: 2 }),
     },
     Case {
         under: Under::Sql,
@@ -144,7 +139,7 @@ pub static SQL_CASES: [Case; 70] = [
         row: b"a",
         times: 3584,
         rest: b"",
-        verdict: Verdict::Holes(0, 2),
+        verdict: Ok(Holes { count: 0, body: 2 }),
     },
     Case {
         under: Under::Sql,
@@ -152,7 +147,7 @@ pub static SQL_CASES: [Case; 70] = [
         row: b" ",
         times: 3580,
         rest: b"@{a}",
-        verdict: Verdict::Holes(1, 2),
+        verdict: Ok(Holes { count: 1, body: 2 }),
     },
     Case {
         under: Under::Sql,
@@ -160,7 +155,7 @@ pub static SQL_CASES: [Case; 70] = [
         row: b"a",
         times: 3585,
         rest: b"",
-        verdict: Verdict::Refused(1, 3584),
+        verdict: Err(Refusal::Plain(1, 3584)),
     },
     Case {
         under: Under::Sql,
@@ -168,7 +163,7 @@ pub static SQL_CASES: [Case; 70] = [
         row: b"a",
         times: 3584,
         rest: b"-",
-        verdict: Verdict::Refused(1, 3584),
+        verdict: Err(Refusal::Plain(1, 3584)),
     },
     Case {
         under: Under::Sql,
@@ -176,7 +171,7 @@ pub static SQL_CASES: [Case; 70] = [
         row: b"-",
         times: 3585,
         rest: b"",
-        verdict: Verdict::Refused(1, 3584),
+        verdict: Err(Refusal::Plain(1, 3584)),
     },
     Case {
         under: Under::Sql,
@@ -184,7 +179,7 @@ pub static SQL_CASES: [Case; 70] = [
         row: b"-",
         times: 3584,
         rest: b"",
-        verdict: Verdict::Refused(6, 0),
+        verdict: Err(Refusal::Plain(6, 0)),
     },
     Case {
         under: Under::Sql,
@@ -192,7 +187,7 @@ pub static SQL_CASES: [Case; 70] = [
         row: b"a",
         times: 3583,
         rest: b"-",
-        verdict: Verdict::Refused(6, 3583),
+        verdict: Err(Refusal::Plain(6, 3583)),
     },
     Case {
         under: Under::Sql,
@@ -200,7 +195,7 @@ pub static SQL_CASES: [Case; 70] = [
         row: b"@",
         times: 1,
         rest: b"",
-        verdict: Verdict::Refused(2, 0),
+        verdict: Err(Refusal::Plain(2, 0)),
     },
     Case {
         under: Under::Sql,
@@ -208,7 +203,7 @@ pub static SQL_CASES: [Case; 70] = [
         row: b"ab@",
         times: 1,
         rest: b"",
-        verdict: Verdict::Refused(2, 2),
+        verdict: Err(Refusal::Plain(2, 2)),
     },
     Case {
         under: Under::Sql,
@@ -216,7 +211,7 @@ pub static SQL_CASES: [Case; 70] = [
         row: b"'ab@",
         times: 1,
         rest: b"",
-        verdict: Verdict::Refused(2, 3),
+        verdict: Err(Refusal::Plain(2, 3)),
     },
     Case {
         under: Under::Sql,
@@ -224,7 +219,7 @@ pub static SQL_CASES: [Case; 70] = [
         row: b"@x",
         times: 1,
         rest: b"",
-        verdict: Verdict::Refused(2, 0),
+        verdict: Err(Refusal::Plain(2, 0)),
     },
     Case {
         under: Under::Sql,
@@ -232,7 +227,7 @@ pub static SQL_CASES: [Case; 70] = [
         row: b"@N",
         times: 1,
         rest: b"",
-        verdict: Verdict::Refused(2, 0),
+        verdict: Err(Refusal::Plain(2, 0)),
     },
     Case {
         under: Under::Sql,
@@ -240,7 +235,7 @@ pub static SQL_CASES: [Case; 70] = [
         row: b"a @ b",
         times: 1,
         rest: b"",
-        verdict: Verdict::Refused(2, 2),
+        verdict: Err(Refusal::Plain(2, 2)),
     },
     Case {
         under: Under::Sql,
@@ -248,7 +243,7 @@ pub static SQL_CASES: [Case; 70] = [
         row: b"a,@}",
         times: 1,
         rest: b"",
-        verdict: Verdict::Refused(2, 2),
+        verdict: Err(Refusal::Plain(2, 2)),
     },
     Case {
         under: Under::Sql,
@@ -256,7 +251,7 @@ pub static SQL_CASES: [Case; 70] = [
         row: b"@{",
         times: 1,
         rest: b"",
-        verdict: Verdict::Refused(3, 2),
+        verdict: Err(Refusal::Plain(3, 2)),
     },
     Case {
         under: Under::Sql,
@@ -264,7 +259,7 @@ pub static SQL_CASES: [Case; 70] = [
         row: b"@{}",
         times: 1,
         rest: b"",
-        verdict: Verdict::Refused(3, 2),
+        verdict: Err(Refusal::Plain(3, 2)),
     },
     Case {
         under: Under::Sql,
@@ -272,7 +267,7 @@ pub static SQL_CASES: [Case; 70] = [
         row: b"@{a",
         times: 1,
         rest: b"",
-        verdict: Verdict::Refused(3, 3),
+        verdict: Err(Refusal::Plain(3, 3)),
     },
     Case {
         under: Under::Sql,
@@ -280,7 +275,7 @@ pub static SQL_CASES: [Case; 70] = [
         row: b"@{abcdefghijklmnop",
         times: 1,
         rest: b"",
-        verdict: Verdict::Refused(3, 18),
+        verdict: Err(Refusal::Plain(3, 18)),
     },
     Case {
         under: Under::Sql,
@@ -288,7 +283,7 @@ pub static SQL_CASES: [Case; 70] = [
         row: b"@{abcdefghijklmnopq}",
         times: 1,
         rest: b"",
-        verdict: Verdict::Refused(3, 18),
+        verdict: Err(Refusal::Plain(3, 18)),
     },
     Case {
         under: Under::Sql,
@@ -296,7 +291,7 @@ pub static SQL_CASES: [Case; 70] = [
         row: b"@{abcdefghijklmnop_}",
         times: 1,
         rest: b"",
-        verdict: Verdict::Refused(3, 18),
+        verdict: Err(Refusal::Plain(3, 18)),
     },
     Case {
         under: Under::Sql,
@@ -304,7 +299,7 @@ pub static SQL_CASES: [Case; 70] = [
         row: b"@{1}",
         times: 1,
         rest: b"",
-        verdict: Verdict::Refused(3, 2),
+        verdict: Err(Refusal::Plain(3, 2)),
     },
     Case {
         under: Under::Sql,
@@ -312,7 +307,7 @@ pub static SQL_CASES: [Case; 70] = [
         row: b"@{_a}",
         times: 1,
         rest: b"",
-        verdict: Verdict::Refused(3, 2),
+        verdict: Err(Refusal::Plain(3, 2)),
     },
     Case {
         under: Under::Sql,
@@ -320,7 +315,7 @@ pub static SQL_CASES: [Case; 70] = [
         row: b"@{aB}",
         times: 1,
         rest: b"",
-        verdict: Verdict::Refused(3, 3),
+        verdict: Err(Refusal::Plain(3, 3)),
     },
     Case {
         under: Under::Sql,
@@ -328,7 +323,7 @@ pub static SQL_CASES: [Case; 70] = [
         row: b"@{a b}",
         times: 1,
         rest: b"",
-        verdict: Verdict::Refused(3, 3),
+        verdict: Err(Refusal::Plain(3, 3)),
     },
     Case {
         under: Under::Sql,
@@ -336,7 +331,7 @@ pub static SQL_CASES: [Case; 70] = [
         row: b"@{a@{b}}",
         times: 1,
         rest: b"",
-        verdict: Verdict::Refused(3, 3),
+        verdict: Err(Refusal::Plain(3, 3)),
     },
     Case {
         under: Under::Sql,
@@ -344,7 +339,7 @@ pub static SQL_CASES: [Case; 70] = [
         row: b"@{a}@{B}",
         times: 1,
         rest: b"",
-        verdict: Verdict::Refused(3, 6),
+        verdict: Err(Refusal::Plain(3, 6)),
     },
     Case {
         under: Under::Sql,
@@ -352,7 +347,7 @@ pub static SQL_CASES: [Case; 70] = [
         row: b"@{a},",
         times: 65,
         rest: b"",
-        verdict: Verdict::Refused(5, 320),
+        verdict: Err(Refusal::Plain(5, 320)),
     },
     Case {
         under: Under::Sql,
@@ -360,7 +355,7 @@ pub static SQL_CASES: [Case; 70] = [
         row: b"@{a},",
         times: 64,
         rest: b"a@{b}",
-        verdict: Verdict::Refused(5, 321),
+        verdict: Err(Refusal::Plain(5, 321)),
     },
     Case {
         under: Under::Sql,
@@ -368,7 +363,7 @@ pub static SQL_CASES: [Case; 70] = [
         row: b"@{a},",
         times: 64,
         rest: b"@{1}",
-        verdict: Verdict::Refused(3, 322),
+        verdict: Err(Refusal::Plain(3, 322)),
     },
     Case {
         under: Under::Sql,
@@ -376,7 +371,7 @@ pub static SQL_CASES: [Case; 70] = [
         row: b"@{a},",
         times: 64,
         rest: b"-@{b}",
-        verdict: Verdict::Refused(6, 320),
+        verdict: Err(Refusal::Plain(6, 320)),
     },
     Case {
         under: Under::Sql,
@@ -384,7 +379,7 @@ pub static SQL_CASES: [Case; 70] = [
         row: b"-",
         times: 1,
         rest: b"",
-        verdict: Verdict::Refused(6, 0),
+        verdict: Err(Refusal::Plain(6, 0)),
     },
     Case {
         under: Under::Sql,
@@ -392,7 +387,7 @@ pub static SQL_CASES: [Case; 70] = [
         row: b"a - b",
         times: 1,
         rest: b"",
-        verdict: Verdict::Refused(6, 2),
+        verdict: Err(Refusal::Plain(6, 2)),
     },
     Case {
         under: Under::Sql,
@@ -400,7 +395,7 @@ pub static SQL_CASES: [Case; 70] = [
         row: b"a'",
         times: 1,
         rest: b"",
-        verdict: Verdict::Refused(6, 1),
+        verdict: Err(Refusal::Plain(6, 1)),
     },
     Case {
         under: Under::Sql,
@@ -408,7 +403,7 @@ pub static SQL_CASES: [Case; 70] = [
         row: b"a\"",
         times: 1,
         rest: b"",
-        verdict: Verdict::Refused(6, 1),
+        verdict: Err(Refusal::Plain(6, 1)),
     },
     Case {
         under: Under::Sql,
@@ -416,7 +411,7 @@ pub static SQL_CASES: [Case; 70] = [
         row: b"'a'\"",
         times: 1,
         rest: b"",
-        verdict: Verdict::Refused(6, 3),
+        verdict: Err(Refusal::Plain(6, 3)),
     },
     Case {
         under: Under::Sql,
@@ -424,7 +419,7 @@ pub static SQL_CASES: [Case; 70] = [
         row: b"@{a}-",
         times: 1,
         rest: b"",
-        verdict: Verdict::Refused(6, 4),
+        verdict: Err(Refusal::Plain(6, 4)),
     },
     Case {
         under: Under::Sql,
@@ -432,7 +427,7 @@ pub static SQL_CASES: [Case; 70] = [
         row: b"@{a}b/",
         times: 1,
         rest: b"",
-        verdict: Verdict::Refused(6, 5),
+        verdict: Err(Refusal::Plain(6, 5)),
     },
     Case {
         under: Under::Sql,
@@ -440,7 +435,7 @@ pub static SQL_CASES: [Case; 70] = [
         row: b"@n-",
         times: 1,
         rest: b"",
-        verdict: Verdict::Refused(6, 2),
+        verdict: Err(Refusal::Plain(6, 2)),
     },
     Case {
         under: Under::Sql,
@@ -448,7 +443,7 @@ pub static SQL_CASES: [Case; 70] = [
         row: b"a,@@",
         times: 1,
         rest: b"",
-        verdict: Verdict::Refused(6, 2),
+        verdict: Err(Refusal::Plain(6, 2)),
     },
     Case {
         under: Under::Sql,
@@ -456,7 +451,7 @@ pub static SQL_CASES: [Case; 70] = [
         row: b"\x00",
         times: 1,
         rest: b"",
-        verdict: Verdict::Refused(6, 0),
+        verdict: Err(Refusal::Plain(6, 0)),
     },
     Case {
         under: Under::Sql,
@@ -464,7 +459,7 @@ pub static SQL_CASES: [Case; 70] = [
         row: b"'\x00'",
         times: 1,
         rest: b"",
-        verdict: Verdict::Refused(6, 1),
+        verdict: Err(Refusal::Plain(6, 1)),
     },
     Case {
         under: Under::Sql,
@@ -472,7 +467,7 @@ pub static SQL_CASES: [Case; 70] = [
         row: b"'a'\x00",
         times: 1,
         rest: b"",
-        verdict: Verdict::Refused(6, 3),
+        verdict: Err(Refusal::Plain(6, 3)),
     },
     Case {
         under: Under::Sql,
@@ -480,7 +475,7 @@ pub static SQL_CASES: [Case; 70] = [
         row: b"\xc3",
         times: 1,
         rest: b"",
-        verdict: Verdict::Refused(6, 0),
+        verdict: Err(Refusal::Plain(6, 0)),
     },
     Case {
         under: Under::Sql,
@@ -488,7 +483,7 @@ pub static SQL_CASES: [Case; 70] = [
         row: b"a@{b}",
         times: 1,
         rest: b"",
-        verdict: Verdict::Refused(7, 1),
+        verdict: Err(Refusal::Plain(7, 1)),
     },
     Case {
         under: Under::Sql,
@@ -496,7 +491,7 @@ pub static SQL_CASES: [Case; 70] = [
         row: b"@{a}@{b}",
         times: 1,
         rest: b"",
-        verdict: Verdict::Refused(7, 4),
+        verdict: Err(Refusal::Plain(7, 4)),
     },
     Case {
         under: Under::Sql,
@@ -504,7 +499,7 @@ pub static SQL_CASES: [Case; 70] = [
         row: b"'x'@{a}",
         times: 1,
         rest: b"",
-        verdict: Verdict::Refused(7, 3),
+        verdict: Err(Refusal::Plain(7, 3)),
     },
     Case {
         under: Under::Sql,
@@ -512,7 +507,7 @@ pub static SQL_CASES: [Case; 70] = [
         row: b"1,2@{a}",
         times: 1,
         rest: b"",
-        verdict: Verdict::Refused(7, 3),
+        verdict: Err(Refusal::Plain(7, 3)),
     },
     Case {
         under: Under::Sql,
@@ -520,7 +515,7 @@ pub static SQL_CASES: [Case; 70] = [
         row: b"'",
         times: 1,
         rest: b"",
-        verdict: Verdict::Refused(8, 1),
+        verdict: Err(Refusal::Plain(8, 1)),
     },
     Case {
         under: Under::Sql,
@@ -528,7 +523,7 @@ pub static SQL_CASES: [Case; 70] = [
         row: b"'abc",
         times: 1,
         rest: b"",
-        verdict: Verdict::Refused(8, 4),
+        verdict: Err(Refusal::Plain(8, 4)),
     },
     Case {
         under: Under::Sql,
@@ -536,7 +531,7 @@ pub static SQL_CASES: [Case; 70] = [
         row: b"'@{a}",
         times: 1,
         rest: b"",
-        verdict: Verdict::Refused(8, 5),
+        verdict: Err(Refusal::Plain(8, 5)),
     },
     Case {
         under: Under::Sql,
@@ -544,7 +539,7 @@ pub static SQL_CASES: [Case; 70] = [
         row: b"'@n",
         times: 1,
         rest: b"",
-        verdict: Verdict::Refused(8, 3),
+        verdict: Err(Refusal::Plain(8, 3)),
     },
     Case {
         under: Under::Sql,
@@ -552,7 +547,7 @@ pub static SQL_CASES: [Case; 70] = [
         row: b"@{a}'",
         times: 1,
         rest: b"",
-        verdict: Verdict::Refused(8, 5),
+        verdict: Err(Refusal::Plain(8, 5)),
     },
     Case {
         under: Under::Sql,
@@ -560,7 +555,7 @@ pub static SQL_CASES: [Case; 70] = [
         row: b"a-@x",
         times: 1,
         rest: b"",
-        verdict: Verdict::Refused(6, 1),
+        verdict: Err(Refusal::Plain(6, 1)),
     },
     Case {
         under: Under::Sql,
@@ -568,7 +563,7 @@ pub static SQL_CASES: [Case; 70] = [
         row: b"@x-",
         times: 1,
         rest: b"",
-        verdict: Verdict::Refused(2, 0),
+        verdict: Err(Refusal::Plain(2, 0)),
     },
     Case {
         under: Under::Sql,
@@ -576,7 +571,7 @@ pub static SQL_CASES: [Case; 70] = [
         row: b"'@{A}",
         times: 1,
         rest: b"",
-        verdict: Verdict::Refused(3, 3),
+        verdict: Err(Refusal::Plain(3, 3)),
     },
     Case {
         under: Under::Sql,
@@ -584,7 +579,7 @@ pub static SQL_CASES: [Case; 70] = [
         row: b"a@{b}-",
         times: 1,
         rest: b"",
-        verdict: Verdict::Refused(7, 1),
+        verdict: Err(Refusal::Plain(7, 1)),
     },
 ];
 
@@ -595,7 +590,7 @@ pub static SHELL_CASES: [Case; 23] = [
         row: b"",
         times: 1,
         rest: b"",
-        verdict: Verdict::Holes(0, 4),
+        verdict: Ok(Holes { count: 0, body: 4 }),
     },
     Case {
         under: Under::Shell,
@@ -603,7 +598,7 @@ pub static SHELL_CASES: [Case; 23] = [
         row: b"echo @{a}",
         times: 1,
         rest: b"",
-        verdict: Verdict::Holes(1, 4),
+        verdict: Ok(Holes { count: 1, body: 4 }),
     },
     Case {
         under: Under::Shell,
@@ -611,7 +606,7 @@ pub static SHELL_CASES: [Case; 23] = [
         row: b"a@{b}c",
         times: 1,
         rest: b"",
-        verdict: Verdict::Holes(1, 4),
+        verdict: Ok(Holes { count: 1, body: 4 }),
     },
     Case {
         under: Under::Shell,
@@ -619,7 +614,7 @@ pub static SHELL_CASES: [Case; 23] = [
         row: b"@{a}@{b}",
         times: 1,
         rest: b"",
-        verdict: Verdict::Holes(2, 4),
+        verdict: Ok(Holes { count: 2, body: 4 }),
     },
     Case {
         under: Under::Shell,
@@ -627,7 +622,7 @@ pub static SHELL_CASES: [Case; 23] = [
         row: b"'@{a}'",
         times: 1,
         rest: b"",
-        verdict: Verdict::Holes(1, 4),
+        verdict: Ok(Holes { count: 1, body: 4 }),
     },
     Case {
         under: Under::Shell,
@@ -635,7 +630,7 @@ pub static SHELL_CASES: [Case; 23] = [
         row: b"\"@{a}\"",
         times: 1,
         rest: b"",
-        verdict: Verdict::Holes(1, 5),
+        verdict: Ok(Holes { count: 1, body: 5 }),
     },
     Case {
         under: Under::Shell,
@@ -643,7 +638,7 @@ pub static SHELL_CASES: [Case; 23] = [
         row: b"a@@b",
         times: 1,
         rest: b"",
-        verdict: Verdict::Holes(0, 4),
+        verdict: Ok(Holes { count: 0, body: 4 }),
     },
     Case {
         under: Under::Shell,
@@ -651,7 +646,7 @@ pub static SHELL_CASES: [Case; 23] = [
         row: b"'@r'",
         times: 1,
         rest: b"",
-        verdict: Verdict::Holes(0, 4),
+        verdict: Ok(Holes { count: 0, body: 4 }),
     },
     Case {
         under: Under::Shell,
@@ -659,7 +654,7 @@ pub static SHELL_CASES: [Case; 23] = [
         row: b"@{a}",
         times: 64,
         rest: b"",
-        verdict: Verdict::Holes(64, 4),
+        verdict: Ok(Holes { count: 64, body: 4 }),
     },
     Case {
         under: Under::Shell,
@@ -667,7 +662,7 @@ pub static SHELL_CASES: [Case; 23] = [
         row: b"@{a}",
         times: 65,
         rest: b"",
-        verdict: Verdict::Refused(5, 256),
+        verdict: Err(Refusal::Plain(5, 256)),
     },
     Case {
         under: Under::Shell,
@@ -675,7 +670,7 @@ pub static SHELL_CASES: [Case; 23] = [
         row: b"a",
         times: 3584,
         rest: b"",
-        verdict: Verdict::Holes(0, 4),
+        verdict: Ok(Holes { count: 0, body: 4 }),
     },
     Case {
         under: Under::Shell,
@@ -683,7 +678,7 @@ pub static SHELL_CASES: [Case; 23] = [
         row: b"a",
         times: 3585,
         rest: b"",
-        verdict: Verdict::Refused(1, 3584),
+        verdict: Err(Refusal::Plain(1, 3584)),
     },
     Case {
         under: Under::Shell,
@@ -691,7 +686,7 @@ pub static SHELL_CASES: [Case; 23] = [
         row: b"a $b",
         times: 1,
         rest: b"",
-        verdict: Verdict::Refused(6, 2),
+        verdict: Err(Refusal::Plain(6, 2)),
     },
     Case {
         under: Under::Shell,
@@ -699,7 +694,7 @@ pub static SHELL_CASES: [Case; 23] = [
         row: b"\"$b\"",
         times: 1,
         rest: b"",
-        verdict: Verdict::Refused(6, 1),
+        verdict: Err(Refusal::Plain(6, 1)),
     },
     Case {
         under: Under::Shell,
@@ -707,7 +702,7 @@ pub static SHELL_CASES: [Case; 23] = [
         row: b"a #b",
         times: 1,
         rest: b"",
-        verdict: Verdict::Refused(6, 2),
+        verdict: Err(Refusal::Plain(6, 2)),
     },
     Case {
         under: Under::Shell,
@@ -715,7 +710,7 @@ pub static SHELL_CASES: [Case; 23] = [
         row: b"a @r",
         times: 1,
         rest: b"",
-        verdict: Verdict::Refused(6, 2),
+        verdict: Err(Refusal::Plain(6, 2)),
     },
     Case {
         under: Under::Shell,
@@ -723,7 +718,7 @@ pub static SHELL_CASES: [Case; 23] = [
         row: b"'\x00'",
         times: 1,
         rest: b"",
-        verdict: Verdict::Refused(6, 1),
+        verdict: Err(Refusal::Plain(6, 1)),
     },
     Case {
         under: Under::Shell,
@@ -731,7 +726,7 @@ pub static SHELL_CASES: [Case; 23] = [
         row: b"\\@{a}",
         times: 1,
         rest: b"",
-        verdict: Verdict::Refused(7, 1),
+        verdict: Err(Refusal::Plain(7, 1)),
     },
     Case {
         under: Under::Shell,
@@ -739,7 +734,7 @@ pub static SHELL_CASES: [Case; 23] = [
         row: b"a\\@{a}",
         times: 1,
         rest: b"",
-        verdict: Verdict::Refused(7, 2),
+        verdict: Err(Refusal::Plain(7, 2)),
     },
     Case {
         under: Under::Shell,
@@ -747,7 +742,7 @@ pub static SHELL_CASES: [Case; 23] = [
         row: b"\"\\@{a}\"",
         times: 1,
         rest: b"",
-        verdict: Verdict::Refused(7, 2),
+        verdict: Err(Refusal::Plain(7, 2)),
     },
     Case {
         under: Under::Shell,
@@ -755,7 +750,7 @@ pub static SHELL_CASES: [Case; 23] = [
         row: b"a '",
         times: 1,
         rest: b"",
-        verdict: Verdict::Refused(8, 3),
+        verdict: Err(Refusal::Plain(8, 3)),
     },
     Case {
         under: Under::Shell,
@@ -763,7 +758,7 @@ pub static SHELL_CASES: [Case; 23] = [
         row: b"\"a@{b}",
         times: 1,
         rest: b"",
-        verdict: Verdict::Refused(8, 6),
+        verdict: Err(Refusal::Plain(8, 6)),
     },
     Case {
         under: Under::Shell,
@@ -771,7 +766,7 @@ pub static SHELL_CASES: [Case; 23] = [
         row: b"a\\",
         times: 1,
         rest: b"",
-        verdict: Verdict::Refused(8, 2),
+        verdict: Err(Refusal::Plain(8, 2)),
     },
 ];
 
@@ -782,7 +777,7 @@ pub static CSV_CASES: [Case; 19] = [
         row: b"",
         times: 1,
         rest: b"",
-        verdict: Verdict::Holes(0, 3),
+        verdict: Ok(Holes { count: 0, body: 3 }),
     },
     Case {
         under: Under::Csv,
@@ -790,7 +785,7 @@ pub static CSV_CASES: [Case; 19] = [
         row: b"@{v}",
         times: 1,
         rest: b"",
-        verdict: Verdict::Holes(1, 3),
+        verdict: Ok(Holes { count: 1, body: 3 }),
     },
     Case {
         under: Under::Csv,
@@ -798,7 +793,7 @@ pub static CSV_CASES: [Case; 19] = [
         row: b"a,@{v}",
         times: 1,
         rest: b"",
-        verdict: Verdict::Holes(1, 3),
+        verdict: Ok(Holes { count: 1, body: 3 }),
     },
     Case {
         under: Under::Csv,
@@ -806,7 +801,7 @@ pub static CSV_CASES: [Case; 19] = [
         row: b"a@{v}",
         times: 1,
         rest: b"",
-        verdict: Verdict::Holes(1, 2),
+        verdict: Ok(Holes { count: 1, body: 2 }),
     },
     Case {
         under: Under::Csv,
@@ -814,7 +809,7 @@ pub static CSV_CASES: [Case; 19] = [
         row: b"\"a@{v}\"",
         times: 1,
         rest: b"",
-        verdict: Verdict::Holes(1, 3),
+        verdict: Ok(Holes { count: 1, body: 3 }),
     },
     Case {
         under: Under::Csv,
@@ -822,7 +817,7 @@ pub static CSV_CASES: [Case; 19] = [
         row: b"a,b@r@n",
         times: 1,
         rest: b"",
-        verdict: Verdict::Holes(0, 3),
+        verdict: Ok(Holes { count: 0, body: 3 }),
     },
     Case {
         under: Under::Csv,
@@ -830,7 +825,7 @@ pub static CSV_CASES: [Case; 19] = [
         row: b"@{a},",
         times: 64,
         rest: b"",
-        verdict: Verdict::Holes(64, 3),
+        verdict: Ok(Holes { count: 64, body: 3 }),
     },
     Case {
         under: Under::Csv,
@@ -838,7 +833,7 @@ pub static CSV_CASES: [Case; 19] = [
         row: b"@{a},",
         times: 65,
         rest: b"",
-        verdict: Verdict::Refused(5, 320),
+        verdict: Err(Refusal::Plain(5, 320)),
     },
     Case {
         under: Under::Csv,
@@ -846,7 +841,7 @@ pub static CSV_CASES: [Case; 19] = [
         row: b"@{v}a",
         times: 1,
         rest: b"",
-        verdict: Verdict::Refused(6, 4),
+        verdict: Err(Refusal::Plain(6, 4)),
     },
     Case {
         under: Under::Csv,
@@ -854,7 +849,7 @@ pub static CSV_CASES: [Case; 19] = [
         row: b"@{v}@{w}",
         times: 1,
         rest: b"",
-        verdict: Verdict::Refused(7, 4),
+        verdict: Err(Refusal::Plain(7, 4)),
     },
     Case {
         under: Under::Csv,
@@ -862,7 +857,7 @@ pub static CSV_CASES: [Case; 19] = [
         row: b"a\"",
         times: 1,
         rest: b"",
-        verdict: Verdict::Refused(6, 1),
+        verdict: Err(Refusal::Plain(6, 1)),
     },
     Case {
         under: Under::Csv,
@@ -870,7 +865,7 @@ pub static CSV_CASES: [Case; 19] = [
         row: b"\"a\"b",
         times: 1,
         rest: b"",
-        verdict: Verdict::Refused(6, 3),
+        verdict: Err(Refusal::Plain(6, 3)),
     },
     Case {
         under: Under::Csv,
@@ -878,7 +873,7 @@ pub static CSV_CASES: [Case; 19] = [
         row: b"a@n",
         times: 1,
         rest: b"",
-        verdict: Verdict::Refused(6, 1),
+        verdict: Err(Refusal::Plain(6, 1)),
     },
     Case {
         under: Under::Csv,
@@ -886,7 +881,7 @@ pub static CSV_CASES: [Case; 19] = [
         row: b"a@rb",
         times: 1,
         rest: b"",
-        verdict: Verdict::Refused(6, 3),
+        verdict: Err(Refusal::Plain(6, 3)),
     },
     Case {
         under: Under::Csv,
@@ -894,7 +889,7 @@ pub static CSV_CASES: [Case; 19] = [
         row: b"@r@{v}",
         times: 1,
         rest: b"",
-        verdict: Verdict::Refused(7, 2),
+        verdict: Err(Refusal::Plain(7, 2)),
     },
     Case {
         under: Under::Csv,
@@ -902,7 +897,7 @@ pub static CSV_CASES: [Case; 19] = [
         row: b"a@r",
         times: 1,
         rest: b"",
-        verdict: Verdict::Refused(8, 3),
+        verdict: Err(Refusal::Plain(8, 3)),
     },
     Case {
         under: Under::Csv,
@@ -910,7 +905,7 @@ pub static CSV_CASES: [Case; 19] = [
         row: b"a\x09b",
         times: 1,
         rest: b"",
-        verdict: Verdict::Refused(6, 1),
+        verdict: Err(Refusal::Plain(6, 1)),
     },
     Case {
         under: Under::Csv,
@@ -918,7 +913,7 @@ pub static CSV_CASES: [Case; 19] = [
         row: b"a\x7f",
         times: 1,
         rest: b"",
-        verdict: Verdict::Refused(6, 1),
+        verdict: Err(Refusal::Plain(6, 1)),
     },
     Case {
         under: Under::Csv,
@@ -926,6 +921,6 @@ pub static CSV_CASES: [Case; 19] = [
         row: b"\"a@{v}",
         times: 1,
         rest: b"",
-        verdict: Verdict::Refused(8, 6),
+        verdict: Err(Refusal::Plain(8, 6)),
     },
 ];

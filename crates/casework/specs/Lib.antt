@@ -1,0 +1,4 @@
+pub mod Counting
+pub mod Meant
+pub mod Names
+pub mod Showing
