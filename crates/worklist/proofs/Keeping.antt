@@ -75,7 +75,7 @@ module _ (m : Meaning) (sound : Sound m) (t : List ℕ) (n : ℕ) (bs : List ℕ
       record { tokens = a.tokens; planned = a.planned; first = r.0; second = r.1; first_reads = r.2; second_reads = r.3; alike = r.4 }
 
   answer_there : (i : ℕ) → i < length os → get_or (slate_answers m t os) i taken ≡ answer m (bodies m (items t) 0 start) (slate_after m t (take i os)) (get_or os i owed)
-  answer_there i lt = answer_at m (bodies m (items t) 0 start) (fresh (holes (items t))) os i lt
+  answer_there i lt = answer_at m (bodies m (items t) 0 start) (fresh (holes (items t))) os i taken lt
 
   -- a bind to an owed hole
   module _ (i h : ℕ) (v : List ℕ) (b : BindOfOwed m t os i h v) where

@@ -14,7 +14,7 @@ abbrev pub Followed : Meaning → List ℕ → State → State → Answer → Li
 Followed m bodies st st' a x = Tracks st st' (reply_of a) (λ ss. answer m bodies ss (order_of x)) (λ ss. next m bodies ss (order_of x))
 
 module _ (m : Meaning) (bodies : List ℕ) where
-  final_push : (ss : Slate) (os : List Order) (o : Order) → final m bodies ss (os ++ o ∷ []) ≡ next m bodies (final m bodies ss os) o
+  pub final_push : (ss : Slate) (os : List Order) (o : Order) → final m bodies ss (os ++ o ∷ []) ≡ next m bodies (final m bodies ss os) o
   final_push ss [] o = refl
   final_push ss (p ∷ os) o = final_push (next m bodies ss p) os o
 

@@ -1,13 +1,14 @@
 -- What a slate keeps from line to line.
-use Rattle.std.proofs.Common.{◌≡◌, ℕ, zero, suc, ◌+◌, ◌<◌, ◌≤◌, Bool, true, false, cond, ltb, List, [], ◌∷◌, length, get_or, take, set, is_some, Some, None, Ok, Err, Option, sym, refl, ap, ◌∙◌, subst, inl, inr, suc-le-suc, le_of_suc-le-suc, one-add, arith, length-set, get_or-set_other, get_or-set_same}
+use Rattle.std.proofs.Common.{◌≡◌, ℕ, zero, suc, ◌<◌, ◌≤◌, Bool, true, false, cond, ltb, List, [], ◌∷◌, length, get_or, take, set, is_some, Some, None, Ok, Err, Option, sym, refl, ap, ◌∙◌, subst, inl, inr, suc-le-suc, le_of_suc-le-suc, arith, length-set, get_or-set_other, get_or-set_same}
 use lib.ListN.{length-replicate}
 use Rattle.std.specs.Option.{option_map}
 use Rattle.std.specs.List.{prefix_len}
-use Rattle.std.proofs.lemmas.Bool.{false≢true, ltb-true, ltb-false, cases_eq}
+use Rattle.std.proofs.lemmas.Bool.{false≢true, ltb-true, ltb-false, cases_eq, cases_lt}
+use Rattle.std.proofs.lemmas.List.Sums.{prefix_len_passes}
 use Rattle.host.specs.Meaning.{Meaning}
 use Rattle.fault.specs.Refusal.{Refusal, of_hole}
 use Rattle.printer.specs.Slate.{Slate, fresh, owed_at, lowest, spells, judge_bind_lem, judge_finish_lem, settled, verdict_bind, verdict_release, bound, released}
-use Rattle.worklist.specs.Lines.{Order, bind, release, owed, taken, answer, next, answers, final}
+use Rattle.worklist.specs.Lines.{Order, Reply, bind, release, owed, answer, next, answers, final}
 use Rattle.printer.specs.Slate.{value_or_none, values_on}
 use Rattle.worklist.specs.Promise.{Owes, LowestOwed, IsRefused}
 
@@ -17,35 +18,13 @@ no_value e = let z : ◌≡◌ {A = ℕ} 0 1 = cc in omega arith
 pub the_same : {A : Type 0} {x y : A} → Some x ≡ Some y → x ≡ y
 the_same e = cc
 
--- the bytes before the first that fails a test
-module _ (p : ℕ → Bool) where
-  pub leading_stops : (v : List ℕ) → prefix_len p v < length v → p (get_or v (prefix_len p v) 0) ≡ false
-  leading_stops [] h = absurd (omega arith)
-  leading_stops (x ∷ xs) h = go (p x) refl (leading_stops xs) h
-    where
-      go : (b : Bool) → p x ≡ b → (prefix_len p xs < length xs → p (get_or xs (prefix_len p xs) 0) ≡ false) → cond b (1 + prefix_len p xs) 0 < suc (length xs) → p (get_or (x ∷ xs) (cond b (1 + prefix_len p xs) 0) 0) ≡ false
-      go true e more lt = ap (λ n. p (get_or (x ∷ xs) n 0)) (one-add (prefix_len p xs)) ∙ more (omega arith)
-      go false e more lt = e
-
-  pub leading_passes : (v : List ℕ) (i : ℕ) → i < prefix_len p v → p (get_or v i 0) ≡ true
-  leading_passes [] i h = absurd (omega arith)
-  leading_passes (x ∷ xs) zero h = go (p x) refl h
-    where
-      go : (b : Bool) → p x ≡ b → 0 < cond b (1 + prefix_len p xs) 0 → p x ≡ true
-      go true e lt = e
-      go false e lt = absurd (omega arith)
-  leading_passes (x ∷ xs) (suc i) h = leading_passes xs i (go (p x) h)
-    where
-      go : (b : Bool) → suc i < cond b (1 + prefix_len p xs) 0 → i < prefix_len p xs
-      go true lt = omega arith
-      go false lt = absurd (omega arith)
-
-  pub leading_within : (v : List ℕ) (i : ℕ) → i < length v → p (get_or v i 0) ≡ false → prefix_len p v < length v
-  leading_within [] i h e = absurd (omega arith)
-  leading_within (x ∷ xs) zero h e = subst (λ b. cond b (1 + prefix_len p xs) 0 < suc (length xs)) (sym e) (omega arith)
-  leading_within (x ∷ xs) (suc i) h e =
-      let more = leading_within xs i (le_of_suc-le-suc h) e in
-      elim (p x) as (λ b. cond b (1 + prefix_len p xs) 0 < suc (length xs)) [ true ↦ omega arith | false ↦ omega arith ]
+-- a byte that fails a test is among those that the leading ones stop at
+pub leading_within : (p : ℕ → Bool) (v : List ℕ) (i : ℕ) → i < length v → p (get_or v i 0) ≡ false → prefix_len p v < length v
+leading_within p v i lt e =
+    elim (cases_lt (prefix_len p v) (length v)) [
+      | inl less ↦ less
+      | inr all ↦ absurd (false≢true (sym e ∙ prefix_len_passes p v i 0 (omega arith)))
+    ]
 
 -- the refusals by which a bind is judged
 none_then : (b : Bool) (x : Option Refusal) (e : Refusal) → cond b x (Some e) ≡ None → (b ≡ true) × (x ≡ None)
@@ -152,10 +131,10 @@ module _ (m : Meaning) (bodies : List ℕ) where
   as_many n os = length_final (fresh n) os ∙ length-replicate n None
 
   -- the answer to one line
-  pub answer_at : (ss : Slate) (os : List Order) (i : ℕ) → i < length os → get_or (answers m bodies ss os) i taken ≡ answer m bodies (final m bodies ss (take i os)) (get_or os i owed)
-  answer_at ss [] i h = absurd (omega arith)
-  answer_at ss (o ∷ os) zero h = refl
-  answer_at ss (o ∷ os) (suc i) h = answer_at (next m bodies ss o) os i (le_of_suc-le-suc h)
+  pub answer_at : (ss : Slate) (os : List Order) (i : ℕ) (d : Reply) → i < length os → get_or (answers m bodies ss os) i d ≡ answer m bodies (final m bodies ss (take i os)) (get_or os i owed)
+  answer_at ss [] i d h = absurd (omega arith)
+  answer_at ss (o ∷ os) zero d h = refl
+  answer_at ss (o ∷ os) (suc i) d h = answer_at (next m bodies ss o) os i d (le_of_suc-le-suc h)
 
 -- a hole that is owed is there
 pub owed_within : (ss : Slate) (k : ℕ) → owed_at ss k ≡ true → k < length ss
