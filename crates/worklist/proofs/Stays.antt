@@ -17,8 +17,7 @@ not_owed (s ∷ ss) zero v e = ap owes e
 not_owed (s ∷ ss) (suc h) v e = not_owed ss h v e
 
 reply_taken : (o : Option Refusal) → reply o ≡ taken → o ≡ None
-reply_taken None e = refl
-reply_taken (Some r) e = absurd (let z : ◌≡◌ {A = ℕ} 0 1 = cc in omega arith)
+reply_taken o e = grind arith
 
 module _ (m : Meaning) (bodies : List ℕ) where
   -- a line that does not release the hole
