@@ -1,7 +1,6 @@
 -- The promise of work lists is kept.
-use Rattle.std.proofs.Common.{◌≡◌, ℕ, ◌<◌, Bool, true, false, cond, ltb, leb, List, ◌++◌, length, get_or, take, drop, Some, None, Ok, Err, Option, Result, sym, refl, ap, ◌∙◌, subst, inl, inr, arith}
+use Rattle.std.proofs.Common.{◌≡◌, ℕ, ◌<◌, leb, List, length, get_or, take, Some, None, Option, Result, sym, refl, ap, ◌∙◌, subst, arith}
 use mathlib.Core.Path.{fun_ext}
-use Rattle.std.proofs.lemmas.Bool.{cases_lt, le-leb, lt-leb, lt-ltb, le-ltb}
 use Rattle.host.specs.Meaning.{Meaning, Sound, Body}
 use Rattle.host.specs.Run.{start}
 use Rattle.host.specs.Promise.{holes, bodies, body_of}
@@ -15,7 +14,7 @@ use Rattle.template.specs.Items.{items}
 use Rattle.template.specs.Judging.{Verdict, verdict, accepted}
 use Rattle.template.proofs.Accepted.{Accepted, accepted_is}
 use Rattle.printer.specs.Held.{rows_of}
-use Rattle.printer.specs.Printing.{in_room, printed_as, printed_by, printed, first_turned, no_room, weight, output}
+use Rattle.printer.specs.Printing.{in_room, printed_as, printed_by, printed, first_turned, weight, output}
 use Rattle.printer.specs.Rows.{value_at}
 use Rattle.printer.specs.Slate.{fresh, lowest, judge_bytes, judge_finish_lem, value_or_none, values_on}
 use Rattle.printer.proofs.Linked.{rows_hold}
@@ -30,28 +29,14 @@ use Rattle.worklist.proofs.Stays.{stays}
 use Rattle.worklist.proofs.Told.{bind_told, release_told}
 
 room_exact : (w : List ℕ) (room : ℕ) → in_room (leb (length w) room) w ≡ printed_exactly w room
-room_exact w room =
-    elim (cases_lt room (length w)) [
-      | inl lt ↦ ap (λ b. in_room b w) (lt-leb (length w) room lt) ∙ sym (ap (λ b. cond b (Err (no_room (length w))) (Ok w)) (lt-ltb room (length w) lt))
-      | inr le ↦ ap (λ b. in_room b w) (le-leb (length w) room le) ∙ sym (ap (λ b. cond b (Err (no_room (length w))) (Ok w)) (le-ltb room (length w) le))
-    ]
-
-weighed : (b : Bool) (w : List ℕ) → weight (cond b (Err (no_room (length w))) (Ok w)) ≡ cond b (Err (no_room (length w))) (Ok (length w))
-weighed true w = refl
-weighed false w = refl
-
-put : (b : Bool) (w old : List ℕ) → output old (cond b (Err (no_room (length w))) (Ok w)) ≡ cond b old (w ++ drop (length w) old)
-put true w old = refl
-put false w old = refl
+room_exact w room = grind arith
 
 -- a finish that is refused, and one that is not
 refused_print : (f : Result ℕ Refusal) (x : Result (List ℕ) Refusal) (old : List ℕ) → IsRefused f → (print_after f x ≡ None) × (output_after f old x ≡ old)
-refused_print (Ok n) x old r = absurd r
-refused_print (Err q) x old r = (refl, refl)
+refused_print f x old r = (grind arith, grind arith)
 
 taken_print : (f : Result ℕ Refusal) (x : Result (List ℕ) Refusal) (old : List ℕ) → (IsRefused f → ⊥) → (print_after f x ≡ Some (weight x)) × (output_after f old x ≡ output old x)
-taken_print (Ok n) x old r = (refl, refl)
-taken_print (Err q) x old r = absurd (r tt)
+taken_print f x old r = (grind arith, grind arith)
 
 module _ (m : Meaning) (sound : Sound m) (t : List ℕ) (n : ℕ) (bs : List ℕ) (e : verdict m t ≡ accepted n bs) (a : Accepted m t n bs) (os : List Order) where
   text_there : (w : List ℕ) × Text m t (slate_after m t os) w
@@ -75,7 +60,7 @@ module _ (m : Meaning) (sound : Sound m) (t : List ℕ) (n : ℕ) (bs : List ℕ
       record { tokens = a.tokens; planned = a.planned; first = r.0; second = r.1; first_reads = r.2; second_reads = r.3; alike = r.4 }
 
   answer_there : (i : ℕ) → i < length os → get_or (slate_answers m t os) i taken ≡ answer m (bodies m (items t) 0 start) (slate_after m t (take i os)) (get_or os i owed)
-  answer_there i lt = answer_at m (bodies m (items t) 0 start) (fresh (holes (items t))) os i lt
+  answer_there i lt = answer_at m (bodies m (items t) 0 start) (fresh (holes (items t))) os i taken lt
 
   -- a bind to an owed hole
   module _ (i h : ℕ) (v : List ℕ) (b : BindOfOwed m t os i h v) where
@@ -113,8 +98,7 @@ module _ (m : Meaning) (sound : Sound m) (t : List ℕ) (n : ℕ) (bs : List ℕ
     filled_prints filled w is =
         let p = taken_print finish print old (λ r. filled (finish_owes n (slate_after m t os) r)) in
         let x : print ≡ printed_exactly w (length old) = prints w is (length old) in
-        let b = ltb (length old) (length w) in
-        (p.0 ∙ ap Some (ap weight x ∙ weighed b w), p.1 ∙ ap (output old) x ∙ put b w old)
+        (grind arith, grind arith)
 
     pub kept : Kept m t os (slate_answers m t os) (rows_of (slate_after m t os)) (judge_finish_lem n (lowest (slate_after m t os))) (print_after (judge_finish_lem n (lowest (slate_after m t os))) (printed m (value_at (rows_of (slate_after m t os))) t (length old))) old (output_after (judge_finish_lem n (lowest (slate_after m t os))) old (printed m (value_at (rows_of (slate_after m t os))) t (length old)))
     unfolding finish print

@@ -1,6 +1,6 @@
 -- A work list, one line after the other.
-use Rattle.std.proofs.Common.{◌≡◌, ℕ, ◌+◌, ◌<◌, ◌≤◌, List, [], ◌∷◌, ◌++◌, map, length, get_or, take, sym, refl, ap, ◌∙◌, subst, ap₂, append_assoc, append-nil}
-use Rattle.std.proofs.lemmas.List.{take_more, map_push, take_all}
+use Rattle.std.proofs.Common.{◌≡◌, ℕ, ◌+◌, ◌<◌, List, [], ◌∷◌, ◌++◌, map, length, get_or, take, sym, refl, ap, ◌∙◌, subst, ap₂, append_assoc}
+use Rattle.std.proofs.lemmas.List.{take_more, map_push}
 use Rattle.host.specs.Meaning.{Meaning}
 use Rattle.printer.specs.Held.{State, Holds, Tracks}
 use Rattle.printer.specs.Slate.{Slate}
@@ -14,17 +14,13 @@ abbrev pub Followed : Meaning → List ℕ → State → State → Answer → Li
 Followed m bodies st st' a x = Tracks st st' (reply_of a) (λ ss. answer m bodies ss (order_of x)) (λ ss. next m bodies ss (order_of x))
 
 module _ (m : Meaning) (bodies : List ℕ) where
-  final_push : (ss : Slate) (os : List Order) (o : Order) → final m bodies ss (os ++ o ∷ []) ≡ next m bodies (final m bodies ss os) o
+  pub final_push : (ss : Slate) (os : List Order) (o : Order) → final m bodies ss (os ++ o ∷ []) ≡ next m bodies (final m bodies ss os) o
   final_push ss [] o = refl
   final_push ss (p ∷ os) o = final_push (next m bodies ss p) os o
 
   answers_push : (ss : Slate) (os : List Order) (o : Order) → answers m bodies ss (os ++ o ∷ []) ≡ answers m bodies ss os ++ answer m bodies (final m bodies ss os) o ∷ []
   answers_push ss [] o = refl
   answers_push ss (p ∷ os) o = ap (λ (rs : List Reply). answer m bodies ss p ∷ rs) (answers_push (next m bodies ss p) os o)
-
-  -- no line yet
-  pub none_gone : (st : State) (before : List Answer) → GoneDown m bodies st st before before []
-  none_gone st before = record { new = []; added = sym (append-nil before); tracks = λ ss h. (refl, h) }
 
   gone_push : (st st₁ st₂ : State) (before all all' : List Answer) (a : Answer) (ls : List Line) (x : Line) → all' ≡ all ++ a ∷ [] → GoneDown m bodies st st₁ before all ls → Followed m bodies st₁ st₂ a x → GoneDown m bodies st st₂ before all' (ls ++ x ∷ [])
   gone_push st st₁ st₂ before all all' a ls x more g f =
@@ -47,6 +43,3 @@ module _ (m : Meaning) (bodies : List ℕ) where
       let x = get_or ls i d in
       let step : Followed m bodies st₁ st₂ a x = subst (λ (k : Meaning). Followed k bodies st₁ st₂ a x) same f in
       subst (GoneDown m bodies st st₂ before all') (sym (take_more ls i d within)) (gone_push st st₁ st₂ before all all' a (take i ls) x more g step)
-
-  pub all_gone : (st st₁ : State) (before all : List Answer) (ls : List Line) (i : ℕ) → length ls ≤ i → GoneDown m bodies st st₁ before all (take i ls) → GoneDown m bodies st st₁ before all ls
-  all_gone st st₁ before all ls i past g = subst (GoneDown m bodies st st₁ before all) (take_all i ls past) g

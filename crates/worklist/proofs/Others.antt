@@ -1,12 +1,12 @@
 -- Two lists that differ only in values sent to hole k: what they answer and leave at the other holes.
-use Rattle.std.proofs.Common.{◌≡◌, ℕ, zero, suc, ◌<◌, Bool, true, false, cond, not, eqb, ltb, List, [], length, get_or, set, Some, None, Option, sym, refl, ap, ◌∙◌, subst, ap₂, inl, inr, le_of_suc-le-suc, arith, length-set, get_or-set_other, get_or-set_same}
-use Rattle.std.proofs.lemmas.Bool.{false≢true, not-true, eq-eqb, cases_eq, ltb-true}
+use Rattle.std.proofs.Common.{◌≡◌, ℕ, zero, suc, ◌<◌, Bool, true, not, eqb, List, [], length, get_or, set, Some, None, Option, sym, refl, ap, ◌∙◌, subst, ap₂, inl, inr, le_of_suc-le-suc, arith, length-set, get_or-set_other, get_or-set_same}
+use Rattle.std.proofs.lemmas.Bool.{false≢true, not-true, eq-eqb, cases_eq}
 use Rattle.host.specs.Meaning.{Meaning}
-use Rattle.fault.specs.Refusal.{Refusal, of_hole}
+use Rattle.fault.specs.Refusal.{Refusal}
 use Rattle.printer.specs.Slate.{Slate, owes, owed_at, judge_bind_lem, judge_release_lem, settled, verdict_bind, verdict_release, bound, released}
 use Rattle.worklist.specs.Lines.{taken, Order, bind, release, owed, reply, answer, next, answers, final}
 use Rattle.worklist.specs.Promise.{AlikeBut, done, same, sent, on_other}
-use Rattle.worklist.proofs.Slates.{no_value, bind_taken}
+use Rattle.worklist.proofs.Slates.{bind_taken}
 
 -- The slates have the same holes, and agree at each but k.
 pub record Agree (k : ℕ) (ss ts : Slate) : Type 0 where
@@ -17,11 +17,7 @@ pub agree_refl : (k : ℕ) (ss : Slate) → Agree k ss ss
 agree_refl k ss = record { as_long = refl; at = λ j d ne. refl }
 
 release_taken : (n : ℕ) (b : Bool) (h : ℕ) → judge_release_lem n b h ≡ None → h < n
-release_taken n b h e = go (ltb h n) refl e
-  where
-    go : (c : Bool) → ltb h n ≡ c → cond c (cond b (Some (of_hole 14 h 0)) None) (Some (of_hole 10 h 0)) ≡ None → h < n
-    go true q f = ltb-true h n q
-    go false q f = absurd (no_value f)
+release_taken n b h e = grind arith
 
 module _ (k : ℕ) (ss ts : Slate) (a : Agree k ss ts) where
   -- one of them changes at k

@@ -1,13 +1,14 @@
 -- What a slate keeps from line to line.
-use Rattle.std.proofs.Common.{◌≡◌, ℕ, zero, suc, ◌+◌, ◌<◌, ◌≤◌, Bool, true, false, cond, ltb, List, [], ◌∷◌, length, get_or, take, set, is_some, Some, None, Ok, Err, Option, sym, refl, ap, ◌∙◌, subst, inl, inr, suc-le-suc, le_of_suc-le-suc, one-add, arith, length-set, get_or-set_other, get_or-set_same}
+use Rattle.std.proofs.Common.{◌≡◌, ℕ, zero, suc, ◌<◌, ◌≤◌, Bool, true, false, List, [], ◌∷◌, length, get_or, take, set, is_some, Some, None, Ok, Err, Option, sym, refl, ap, ◌∙◌, subst, inl, inr, suc-le-suc, le_of_suc-le-suc, arith, length-set, get_or-set_other, get_or-set_same}
 use lib.ListN.{length-replicate}
 use Rattle.std.specs.Option.{option_map}
 use Rattle.std.specs.List.{prefix_len}
-use Rattle.std.proofs.lemmas.Bool.{false≢true, ltb-true, ltb-false, cases_eq}
+use Rattle.std.proofs.lemmas.Bool.{false≢true, cases_eq, cases_lt}
+use Rattle.std.proofs.lemmas.List.Sums.{prefix_len_passes}
 use Rattle.host.specs.Meaning.{Meaning}
 use Rattle.fault.specs.Refusal.{Refusal, of_hole}
 use Rattle.printer.specs.Slate.{Slate, fresh, owed_at, lowest, spells, judge_bind_lem, judge_finish_lem, settled, verdict_bind, verdict_release, bound, released}
-use Rattle.worklist.specs.Lines.{Order, bind, release, owed, taken, answer, next, answers, final}
+use Rattle.worklist.specs.Lines.{Order, Reply, bind, release, owed, answer, next, answers, final}
 use Rattle.printer.specs.Slate.{value_or_none, values_on}
 use Rattle.worklist.specs.Promise.{Owes, LowestOwed, IsRefused}
 
@@ -17,45 +18,15 @@ no_value e = let z : ◌≡◌ {A = ℕ} 0 1 = cc in omega arith
 pub the_same : {A : Type 0} {x y : A} → Some x ≡ Some y → x ≡ y
 the_same e = cc
 
--- the bytes before the first that fails a test
-module _ (p : ℕ → Bool) where
-  pub leading_stops : (v : List ℕ) → prefix_len p v < length v → p (get_or v (prefix_len p v) 0) ≡ false
-  leading_stops [] h = absurd (omega arith)
-  leading_stops (x ∷ xs) h = go (p x) refl (leading_stops xs) h
-    where
-      go : (b : Bool) → p x ≡ b → (prefix_len p xs < length xs → p (get_or xs (prefix_len p xs) 0) ≡ false) → cond b (1 + prefix_len p xs) 0 < suc (length xs) → p (get_or (x ∷ xs) (cond b (1 + prefix_len p xs) 0) 0) ≡ false
-      go true e more lt = ap (λ n. p (get_or (x ∷ xs) n 0)) (one-add (prefix_len p xs)) ∙ more (omega arith)
-      go false e more lt = e
+-- a byte that fails a test is among those that the leading ones stop at
+pub leading_within : (p : ℕ → Bool) (v : List ℕ) (i : ℕ) → i < length v → p (get_or v i 0) ≡ false → prefix_len p v < length v
+leading_within p v i lt e =
+    elim (cases_lt (prefix_len p v) (length v)) [
+      | inl less ↦ less
+      | inr all ↦ absurd (false≢true (sym e ∙ prefix_len_passes p v i 0 (omega arith)))
+    ]
 
-  pub leading_passes : (v : List ℕ) (i : ℕ) → i < prefix_len p v → p (get_or v i 0) ≡ true
-  leading_passes [] i h = absurd (omega arith)
-  leading_passes (x ∷ xs) zero h = go (p x) refl h
-    where
-      go : (b : Bool) → p x ≡ b → 0 < cond b (1 + prefix_len p xs) 0 → p x ≡ true
-      go true e lt = e
-      go false e lt = absurd (omega arith)
-  leading_passes (x ∷ xs) (suc i) h = leading_passes xs i (go (p x) h)
-    where
-      go : (b : Bool) → suc i < cond b (1 + prefix_len p xs) 0 → i < prefix_len p xs
-      go true lt = omega arith
-      go false lt = absurd (omega arith)
-
-  pub leading_within : (v : List ℕ) (i : ℕ) → i < length v → p (get_or v i 0) ≡ false → prefix_len p v < length v
-  leading_within [] i h e = absurd (omega arith)
-  leading_within (x ∷ xs) zero h e = subst (λ b. cond b (1 + prefix_len p xs) 0 < suc (length xs)) (sym e) (omega arith)
-  leading_within (x ∷ xs) (suc i) h e =
-      let more = leading_within xs i (le_of_suc-le-suc h) e in
-      elim (p x) as (λ b. cond b (1 + prefix_len p xs) 0 < suc (length xs)) [ true ↦ omega arith | false ↦ omega arith ]
-
--- the refusals by which a bind is judged
-none_then : (b : Bool) (x : Option Refusal) (e : Refusal) → cond b x (Some e) ≡ None → (b ≡ true) × (x ≡ None)
-none_then true x e h = (refl, h)
-none_then false x e h = absurd (no_value h)
-
-none_else : (b : Bool) (e : Refusal) (x : Option Refusal) → cond b (Some e) x ≡ None → (b ≡ false) × (x ≡ None)
-none_else true e x h = absurd (no_value h)
-none_else false e x h = (refl, h)
-
+-- what is taken, and what is refused
 pub keeps : (P : Slate → Type 0) (j : Option Refusal) (new old : Slate) → (j ≡ None → P new) → P old → P (settled j new old)
 keeps P None new old f x = f refl
 keeps P (Some e) new old f x = x
@@ -80,17 +51,11 @@ none_set (s ∷ ss) (suc k) = none_set ss k
 
 module _ (m : Meaning) (bodies : List ℕ) where
   pub bind_taken : (n : ℕ) (b : Bool) (h : ℕ) (v : List ℕ) → judge_bind_lem m bodies n b h v ≡ None → (h < n) × (length v ≤ prefix_len (spells m (get_or bodies h 0)) v)
-  bind_taken n b h v e =
-      let k = prefix_len (spells m (get_or bodies h 0)) v in
-      let within = none_then (ltb h n) _ (of_hole 10 h 0) e in
-      let is_owed = none_then b _ (of_hole 11 h 0) within.1 in
-      let short = none_else (ltb 160 (length v)) (of_hole 12 h 160) _ is_owed.1 in
-      let spelt = none_else (ltb k (length v)) (of_hole 13 h k) None short.1 in
-      (ltb-true h n within.0, ltb-false k (length v) spelt.0)
+  bind_taken n b h v e = grind arith
 
   -- and its hole was owed
   pub bind_owed : (n : ℕ) (b : Bool) (h : ℕ) (v : List ℕ) → judge_bind_lem m bodies n b h v ≡ None → b ≡ true
-  bind_owed n b h v e = (none_then b _ (of_hole 11 h 0) (none_then (ltb h n) _ (of_hole 10 h 0) e).1).0
+  bind_owed n b h v e = grind arith
 
   -- every value on the slate is spelt in the body of its hole
   abbrev pub Good : Slate → Type 0
@@ -152,10 +117,10 @@ module _ (m : Meaning) (bodies : List ℕ) where
   as_many n os = length_final (fresh n) os ∙ length-replicate n None
 
   -- the answer to one line
-  pub answer_at : (ss : Slate) (os : List Order) (i : ℕ) → i < length os → get_or (answers m bodies ss os) i taken ≡ answer m bodies (final m bodies ss (take i os)) (get_or os i owed)
-  answer_at ss [] i h = absurd (omega arith)
-  answer_at ss (o ∷ os) zero h = refl
-  answer_at ss (o ∷ os) (suc i) h = answer_at (next m bodies ss o) os i (le_of_suc-le-suc h)
+  pub answer_at : (ss : Slate) (os : List Order) (i : ℕ) (d : Reply) → i < length os → get_or (answers m bodies ss os) i d ≡ answer m bodies (final m bodies ss (take i os)) (get_or os i owed)
+  answer_at ss [] i d h = absurd (omega arith)
+  answer_at ss (o ∷ os) zero d h = refl
+  answer_at ss (o ∷ os) (suc i) d h = answer_at (next m bodies ss o) os i d (le_of_suc-le-suc h)
 
 -- a hole that is owed is there
 pub owed_within : (ss : Slate) (k : ℕ) → owed_at ss k ≡ true → k < length ss
@@ -180,18 +145,10 @@ owed_lowest (Some v ∷ ss) zero h e = absurd (false≢true e)
 owed_lowest (Some v ∷ ss) (suc k) h e = some_mapped suc (lowest ss) ∙ owed_lowest ss k (le_of_suc-le-suc h) e
 
 pub finish_owes : (n : ℕ) (ss : Slate) → IsRefused (judge_finish_lem n (lowest ss)) → Owes ss
-finish_owes n ss r = lowest_owed ss (go (lowest ss) r)
-  where
-    go : (o : Option ℕ) → IsRefused (judge_finish_lem n o) → is_some o ≡ true
-    go None r = absurd r
-    go (Some k) r = refl
+finish_owes n ss r = lowest_owed ss (grind arith)
 
 pub owes_finish : (n : ℕ) (ss : Slate) → Owes ss → IsRefused (judge_finish_lem n (lowest ss))
-owes_finish n ss o = go (lowest ss) (owed_lowest ss o.0 o.1 o.2)
-  where
-    go : (o : Option ℕ) → is_some o ≡ true → IsRefused (judge_finish_lem n o)
-    go None e = absurd (false≢true e)
-    go (Some k) e = tt
+owes_finish n ss o = let some = owed_lowest ss o.0 o.1 o.2 in grind arith
 
 -- and the hole that a finish names is the lowest
 lowest_is : (ss : Slate) (k : ℕ) → lowest ss ≡ Some k → LowestOwed ss k
@@ -215,11 +172,7 @@ finish_names n ss r = go (lowest ss) refl
   where
     go : (o : Option ℕ) → lowest ss ≡ o → judge_finish_lem n o ≡ Err r → (k : ℕ) × (r ≡ of_hole 15 k 0) × LowestOwed ss k
     go None q f = absurd (let z : ◌≡◌ {A = ℕ} 0 1 = cc in omega arith)
-    go (Some k) q f = let same : of_hole 15 k 0 ≡ r = cc in (k, sym same, lowest_is ss k q)
+    go (Some k) q f = (k, grind arith, lowest_is ss k q)
 
 pub finish_counts : (n k : ℕ) (ss : Slate) → judge_finish_lem n (lowest ss) ≡ Ok k → k ≡ n
-finish_counts n k ss = go (lowest ss)
-  where
-    go : (o : Option ℕ) → judge_finish_lem n o ≡ Ok k → k ≡ n
-    go None f = let same : n ≡ k = cc in sym same
-    go (Some j) f = absurd (let z : ◌≡◌ {A = ℕ} 0 1 = cc in omega arith)
+finish_counts n k ss e = grind arith

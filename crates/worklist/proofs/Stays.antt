@@ -1,12 +1,14 @@
 -- A value that is taken stays until its hole is released.
-use Rattle.std.proofs.Common.{◌≡◌, ℕ, zero, suc, ◌+◌, ◌-◌, ◌<◌, ◌≤◌, false, List, [], ◌∷◌, length, get_or, take, set, Some, None, Option, sym, refl, ap, ◌∙◌, subst, inl, inr, le_of_suc-le-suc, arith, get_or-set_other, get_or-set_same}
+use Rattle.std.proofs.Common.{◌≡◌, ℕ, zero, suc, ◌+◌, ◌-◌, ◌<◌, ◌≤◌, false, List, [], ◌∷◌, length, get_or, take, set, Some, None, Option, sym, refl, ap, ◌∙◌, subst, inl, inr, arith, get_or-set_other, get_or-set_same}
 use Rattle.std.proofs.lemmas.Bool.{false≢true, cases_eq}
+use Rattle.std.proofs.lemmas.List.{take_more}
 use Rattle.host.specs.Meaning.{Meaning}
 use Rattle.fault.specs.Refusal.{Refusal}
 use Rattle.printer.specs.Slate.{Slate, owes, owed_at, verdict_bind, verdict_release, settled}
 use Rattle.worklist.specs.Lines.{Order, bind, release, owed, taken, owes_now, reply, answer, next, answers, final}
 use Rattle.worklist.specs.Promise.{BoundAndLeft}
-use Rattle.worklist.proofs.Slates.{keeps, bind_taken, bind_owed}
+use Rattle.worklist.proofs.Slates.{keeps, bind_taken, bind_owed, answer_at}
+use Rattle.worklist.proofs.Listed.{final_push}
 
 -- a hole with a value is not owed
 not_owed : (ss : Slate) (h : ℕ) (v : List ℕ) → get_or ss h None ≡ Some v → owed_at ss h ≡ false
@@ -15,8 +17,7 @@ not_owed (s ∷ ss) zero v e = ap owes e
 not_owed (s ∷ ss) (suc h) v e = not_owed ss h v e
 
 reply_taken : (o : Option Refusal) → reply o ≡ taken → o ≡ None
-reply_taken None e = refl
-reply_taken (Some r) e = absurd (let z : ◌≡◌ {A = ℕ} 0 1 = cc in omega arith)
+reply_taken o e = grind arith
 
 module _ (m : Meaning) (bodies : List ℕ) where
   -- a line that does not release the hole
@@ -45,14 +46,7 @@ module _ (m : Meaning) (bodies : List ℕ) where
 
   -- one line more
   final_more : (ss : Slate) (os : List Order) (l : ℕ) → l < length os → final m bodies ss (take (suc l) os) ≡ next m bodies (final m bodies ss (take l os)) (get_or os l owed)
-  final_more ss [] l lt = absurd (omega arith)
-  final_more ss (o ∷ os) zero lt = refl
-  final_more ss (o ∷ os) (suc l) lt = final_more (next m bodies ss o) os l (le_of_suc-le-suc lt)
-
-  answer_of : (ss : Slate) (os : List Order) (i : ℕ) → i < length os → get_or (answers m bodies ss os) i (owes_now 0 None) ≡ answer m bodies (final m bodies ss (take i os)) (get_or os i owed)
-  answer_of ss [] i h = absurd (omega arith)
-  answer_of ss (o ∷ os) zero h = refl
-  answer_of ss (o ∷ os) (suc i) h = answer_of (next m bodies ss o) os i (le_of_suc-le-suc h)
+  final_more ss os l lt = let next_is : suc l ≡ l + 1 = omega arith in ap (λ (k : ℕ). final m bodies ss (take k os)) next_is ∙ ap (final m bodies ss) (take_more os l owed lt) ∙ final_push m bodies ss (take l os) (get_or os l owed)
 
   module _ (ss : Slate) (os : List Order) (i h : ℕ) (v : List ℕ) (here : get_or (final m bodies ss (take (suc i) os)) h None ≡ Some v) where
     onward : (d : ℕ) → suc i + d ≤ length os → ((l : ℕ) → i < l → l < suc i + d → get_or os l owed ≡ release h → ⊥) → get_or (final m bodies ss (take (suc i + d) os)) h None ≡ Some v
@@ -68,7 +62,7 @@ module _ (m : Meaning) (bodies : List ℕ) where
   pub stays : (ss : Slate) (os : List Order) (i j h : ℕ) (v : List ℕ) → BoundAndLeft os (answers m bodies ss os) i j h v → get_or (final m bodies ss (take j os)) h None ≡ Some v
   stays ss os i j h v b =
       let lt : i < length os = omega (arith, b.before, b.within) in
-      let said = sym (answer_of ss os i lt ∙ ap (answer m bodies (final m bodies ss (take i os))) b.line) ∙ b.was_taken in
+      let said = sym (answer_at m bodies ss os i (owes_now 0 None) lt ∙ ap (answer m bodies (final m bodies ss (take i os))) b.line) ∙ b.was_taken in
       let here = ap (λ (ts : Slate). get_or ts h None) (final_more ss os i lt ∙ ap (next m bodies (final m bodies ss (take i os))) b.line) ∙ value_put (final m bodies ss (take i os)) h v said in
       let is : suc i + (j - suc i) ≡ j = omega (arith, b.before) in
       subst (λ (k : ℕ). get_or (final m bodies ss (take k os)) h None ≡ Some v) is

@@ -2,6 +2,8 @@
 use Rattle.std.specs.Prelude.{◌≡◌, ℕ, ◌<◌, List, ◌++◌, map, Some, None, Ok, Err, Option, Result}
 use Rattle.std.specs.Option.{option_map}
 use Rattle.host.specs.Meaning.{Meaning}
+use Rattle.fault.specs.declared.failure.Failure.{Failure}
+use Rattle.fault.specs.declared.failure.Failure.TheVariants.{Refused, NoMemory}
 use Rattle.fault.specs.declared.fault.Fault.{Fault}
 use Rattle.fault.specs.Refusal.{Refusal, refusal_of, told, of_template}
 use Rattle.template.specs.Judging.{Verdict, refused as unfit, accepted}
@@ -13,8 +15,6 @@ use Rattle.worklist.specs.declared.line.Line.TheVariants.{Bind, Release, Owed}
 use Rattle.worklist.specs.declared.line.Answer.{Answer}
 use Rattle.worklist.specs.declared.line.Answer.TheVariants as said
 use Rattle.worklist.specs.declared.outcome.Worked.{Worked}
-use Rattle.worklist.specs.declared.outcome.Unworked.{Unworked}
-use Rattle.worklist.specs.declared.outcome.Unworked.TheVariants.{Refused, NoMemory}
 use Rattle.worklist.specs.Lines.{Order, bind, release, owed, Reply, taken, refused, owes_now, answers, final}
 use Rattle.worklist.specs.Promise.{Kept}
 
@@ -53,7 +53,7 @@ output_after (Ok n) old x = output old x
 output_after (Err r) old x = old
 
 -- The refusal of the template, if that is the answer; and the one that a verdict has.
-abbrev pub refusal_by : {A : Type 0} → Result A Unworked → Option Refusal
+abbrev pub refusal_by : {A : Type 0} → Result A (Failure Fault) → Option Refusal
 refusal_by (Ok x) = None
 refusal_by (Err (Refused f)) = Some (refusal_of f)
 refusal_by (Err NoMemory) = None
@@ -63,13 +63,13 @@ verdict_refusal (unfit r) = Some (of_template r)
 verdict_refusal (accepted n bodies) = None
 
 -- Memory is refused only where the room that there was is too small.
-abbrev pub LackedRoom : {A : Type 0} → Result A Unworked → ℕ → ℕ → Type 0
+abbrev pub LackedRoom : {A : Type 0} → Result A (Failure Fault) → ℕ → ℕ → Type 0
 LackedRoom (Ok x) had needed = Unit {0}
 LackedRoom (Err (Refused f)) had needed = Unit {0}
 LackedRoom (Err NoMemory) had needed = had < needed
 
 -- Everything is as it was found, where the call is refused or lacks memory.
-pub record AsFound {A : Type 0} (r : Result A Unworked) (rows rows' : List Row) (answers answers' : List Answer) (old new : List ℕ) : Type 0 where
-  pub sheet : (u : Unworked) → r ≡ Err u → rows' ≡ rows
-  pub vector : (u : Unworked) → r ≡ Err u → answers' ≡ answers
-  pub output : (u : Unworked) → r ≡ Err u → new ≡ old
+pub record AsFound {A : Type 0} (r : Result A (Failure Fault)) (rows rows' : List Row) (answers answers' : List Answer) (old new : List ℕ) : Type 0 where
+  pub sheet : (u : Failure Fault) → r ≡ Err u → rows' ≡ rows
+  pub vector : (u : Failure Fault) → r ≡ Err u → answers' ≡ answers
+  pub output : (u : Failure Fault) → r ≡ Err u → new ≡ old

@@ -2,8 +2,6 @@
 ghost use Rattle.worklist.specs.Law.{PromiseKept};
 
 // The promise is kept for every sound host, every template that it accepts, and every list.
-pub fn work_lists_kept() -> u8
+pub fn work_lists_kept()
     ensures { PromiseKept }
-{
-    0
-}
+{}

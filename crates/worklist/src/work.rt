@@ -1,17 +1,17 @@
 // Going down a work list: the template is checked, opened, filled line by line, finished and printed.
-ghost use Rattle.std.specs.Prelude.{◌≡◌, ◌+◌, ◌≤◌, map, length, IfOk, vec_len, vec_capacity};
+ghost use Rattle.std.specs.Prelude.{◌≡◌, ◌+◌, ◌≤◌, length, IfOk, vec_len, vec_capacity};
 ghost use Rattle.fault.specs.Refusal.{told};
 ghost use Rattle.template.specs.Judging.{verdict};
-ghost use Rattle.printer.specs.Calls.{state_of, refusal_in, bodies_of};
+ghost use Rattle.printer.specs.Calls.{state_of, bodies_of};
 ghost use Rattle.printer.specs.Held.{Tracks, judged_finish};
-ghost use Rattle.printer.specs.Passes.{walked, WalksAsPrinted};
+ghost use Rattle.printer.specs.Passes.{walked};
 ghost use Rattle.printer.specs.Rows.{value_at};
 ghost use Rattle.worklist.specs.Calls.{order_of, reply_of, print_of, GoneDown, AddsKept, print_after, output_after, refusal_by, verdict_refusal, LackedRoom, AsFound};
-ghost use Rattle.worklist.specs.Lines.{reply, answer, next};
+ghost use Rattle.worklist.specs.Lines.{answer, next};
 
 use crate::line::{Answer, Line};
-use crate::outcome::{Unworked, Worked};
-use fault::Fault;
+use crate::outcome::Worked;
+use fault::{Failure, Fault};
 use host::Host;
 use printer::filling::Filling;
 use printer::open::open;
@@ -19,15 +19,6 @@ use printer::sheet::Sheet;
 use template::check::check_and_survey;
 use template::raw::Raw;
 use template::survey::Survey;
-
-fn settled(told: Result<(), Fault>) -> Answer
-    ensures { reply_of result ≡ reply (refusal_in told) }
-{
-    match told {
-        Ok(()) => Answer::Taken,
-        Err(fault) => Answer::Refused(fault),
-    }
-}
 
 // Does one line.
 fn follow<H: Host>(
@@ -41,8 +32,8 @@ fn follow<H: Host>(
     ensures template { filling.new.template ≡ filling.old.template }
 {
     match line {
-        Line::Bind { hole, value } => settled(filling.bind_surveyed(sheet, survey, hole, value)),
-        Line::Release { hole } => settled(filling.release(sheet, hole)),
+        Line::Bind { hole, value } => filling.bind_surveyed(sheet, survey, hole, value).into(),
+        Line::Release { hole } => filling.release(sheet, hole).into(),
         Line::Owed => {
             let (count, lowest) = filling.owed();
             Answer::Owed { count, lowest }
@@ -74,19 +65,12 @@ fn conclude<H: Host>(filling: Filling<'_>, sheet: &Sheet<H>, out: &mut [u8]) -> 
     ensures print { print_of result.print ≡ print_after (judged_finish filling.entry.holes filling.entry.owed) (walked (H.meaning sheet.now.host) (value_at sheet.now.table.rows) filling.entry.template.now (length out.old)) }
     ensures text { out.new ≡ output_after (judged_finish filling.entry.holes filling.entry.owed) out.old (walked (H.meaning sheet.now.host) (value_at sheet.now.table.rows) filling.entry.template.now (length out.old)) }
 {
-    match filling.judge_finish() {
-        Ok(holes) => {
-            let finished = filling.finish();
-            Worked {
-                finish: Ok(holes),
-                print: Some(finished.print_surveyed(sheet, out)),
-            }
-        }
-        Err(fault) => Worked {
-            finish: Err(fault),
-            print: None,
-        },
-    }
+    let finish = filling.judge_finish();
+    let print = match finish {
+        Ok(_) => Some(filling.finish().print_surveyed(sheet, out)),
+        Err(_) => None,
+    };
+    Worked { finish, print }
 }
 
 // Goes down the lines on the sheet, which is cleared first, and adds the answer of each to the caller's answers; then judges
@@ -98,15 +82,14 @@ pub fn work<H: Host>(
     lines: &[Line<'_>],
     answers: &mut Vec<Answer>,
     out: &mut [u8],
-) -> Result<Worked, Unworked>
+) -> Result<Worked, Failure<Fault>>
     ensures kept { IfOk result (λ w. AddsKept (H.meaning sheet.old.host) raw.entry.template.now lines.now answers.old.items answers.new.items sheet.new.table.rows w out.old out.new) }
     ensures refused { refusal_by result ≡ verdict_refusal (verdict (H.meaning sheet.old.host) raw.entry.template.now) }
     ensures memory { LackedRoom result (vec_capacity answers.old) (vec_len answers.old + length lines.now) }
     ensures found { AsFound result sheet.old.table.rows sheet.new.table.rows answers.old.items answers.new.items out.old out.new }
     ensures host { sheet.new.host ≡ sheet.old.host }
 {
-    let mut survey = Survey::blank();
-    let checked = check_and_survey(raw, sheet.host(), &mut survey)?;
+    let (checked, survey) = check_and_survey(raw, sheet.host())?;
     answers.reserve(lines.len())?;
     let mut filling = open(checked, sheet);
     follow_all(&mut filling, sheet, &survey, lines, answers);
