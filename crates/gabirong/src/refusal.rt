@@ -1,43 +1,39 @@
-// A refusal as the program tells it.
-use crate::Outcome;
-use crate::shown::{Line, width};
+// A refusal of a text, with the line of the text that it speaks of.
+use crate::shown::{Line, Shown, Style};
 use fault::Fault;
+use std::fmt;
 
-// The refusal on one line, then the line of the file that has its place, with a caret under it.
-pub fn refuse(rt: &HostRuntime, fault: Fault, text: &[u8]) -> anyhow::Result<Outcome> {
-    eprintln!(rt; "refused {fault}")?;
-    let (before, after) = line_at(text, fault.place());
-    eprintln!(rt; "{}{}", Line(before), Line(after))?;
-    for byte in before {
-        for _ in 0..width(*byte) {
-            eprint!(rt; " ")?;
-        }
-    }
-    eprintln!(rt; "^")?;
-    Ok(Outcome::Refused)
+#[derive(Drop)]
+pub struct Refusal {
+    pub fault: Fault,
+    pub text: Vec<u8>,
 }
 
-// The line of a text that has a place: what stands before the place, and the rest.
-fn line_at(text: &[u8], place: usize) -> (&[u8], &[u8]) {
-    let (before, after) = text.split_at(place.min(text.len()));
-    (last_line(before), first_line(after))
+impl Refusal {
+    // The line that has the refusal's place: what stands before the place, and the rest.
+    fn line(&self) -> (&[u8], &[u8]) {
+        let text = self.text.as_slice();
+        let (before, after) = text.split_at(self.fault.place().min(text.len()));
+        let before = before.rsplit(is_line_feed).next().unwrap_or(before);
+        let after = after.split(is_line_feed).next().unwrap_or(after);
+        (before, after)
+    }
 }
 
-fn last_line(text: &[u8]) -> &[u8] {
-    let mut from = 0;
-    for (i, byte) in text.iter().enumerate() {
-        if *byte == b'\n' {
-            from = i + 1;
-        }
-    }
-    &text[from..]
+fn is_line_feed(byte: &u8) -> bool {
+    *byte == b'\n'
 }
 
-fn first_line(text: &[u8]) -> &[u8] {
-    for (i, byte) in text.iter().enumerate() {
-        if *byte == b'\n' {
-            return &text[0..i];
+// The refusal on one line, then the line of the text, then a caret under the place.
+impl fmt::Display for Refusal {
+    fn fmt<W: fmt::Write>(&self, f: &mut fmt::Formatter<W>) -> fmt::Result {
+        let fault = self.fault;
+        let (before, after) = self.line();
+        writeln!(f, "refused {fault}")?;
+        writeln!(f, "{}{}", Shown(before, Line), Shown(after, Line))?;
+        for byte in before {
+            f.write_str(if Line::is_plain(*byte) { " " } else { "    " })?;
         }
+        f.write_char('^')
     }
-    text
 }
