@@ -1,7 +1,6 @@
 // The command `check`: whether a host takes a template, and how it reads it.
 use crate::input::read_whole;
 use crate::kinds::KindNames;
-use crate::refusal::Refusal;
 use crate::shown::{Count, Line, Quoted, Shown, Style};
 use crate::stop::Stop;
 use host::Host;
@@ -19,12 +18,9 @@ pub fn check_template<'a, H: Host + KindNames>(
     path: &'a str,
 ) -> Result<(), Stop<'a>> {
     let file = read_whole(rt, path)?;
+    println!(rt; "read {path}: {} bytes", file.len())?;
+    let (file, count) = accepted(host, file)?;
     let template = file.as_slice();
-    println!(rt; "read {path}: {} bytes", template.len())?;
-    let count = match check(Raw::new(template), host) {
-        Ok(checked) => checked.holes(),
-        Err(fault) => return Err(Stop::TextRefused(Refusal { fault, text: file })),
-    };
     let visits = visits(rt.alloc(), template, host)?;
     let holes = holes_of(rt.alloc(), visits.as_slice())?;
     let tokens = plan(rt.alloc(), template, host)?;
@@ -38,6 +34,15 @@ pub fn check_template<'a, H: Host + KindNames>(
     tell_plan(rt, host, tokens.as_slice(), holes.as_slice())?;
     println!(rt; "checked: {}", Count(count, "hole"))?;
     Ok(())
+}
+
+// A template that the host accepts, and the number of its holes.
+pub fn accepted<H: Host>(host: &H, template: Vec<u8>) -> Result<(Vec<u8>, usize), Stop<'static>> {
+    let holes = match check(Raw::new(template.as_slice()), host) {
+        Ok(checked) => checked.holes(),
+        Err(fault) => return Err(Stop::TextRefused(fault, template)),
+    };
+    Ok((template, holes))
 }
 
 // The holes in order, which is their numbers.

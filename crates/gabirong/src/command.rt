@@ -22,13 +22,6 @@ impl FromStr for HostName {
     }
 }
 
-// What `fill` tells: what comes of each pair and the text, or the text alone.
-#[derive(Clone, Copy)]
-pub enum Telling {
-    All,
-    Text,
-}
-
 // What is to be done under a host.
 #[derive(Clone, Copy)]
 pub enum Action<'a> {
@@ -43,7 +36,11 @@ pub enum Action<'a> {
     },
     // Each pair is `NAME=VALUE`.
     Fill {
-        telling: Telling,
+        template: &'a str,
+        pairs: &'a [String],
+    },
+    // The same, with the text alone printed.
+    FillQuietly {
         template: &'a str,
         pairs: &'a [String],
     },
@@ -81,51 +78,38 @@ impl<'a> TryFrom<&'a [String]> for Job<'a> {
             ("pack", []) => Ok(Job::Pack { file: "-" }),
             ("pack", [file]) => Ok(Job::Pack { file }),
             ("records", [file]) => Ok(Job::Records { file }),
-            ("check", [host, template]) => hosted(host, Action::Check { template }),
-            ("list", [flag, host, text]) if flag.as_str() == "--raw" => {
-                hosted(host, Action::ListRaw { text })
-            }
-            ("list", [host, text]) => hosted(host, Action::List { text }),
-            ("fill", [flag, host, template, pairs @ ..]) if flag.as_str() == "-q" => {
-                fill(host, Telling::Text, template, pairs)
-            }
-            ("fill", [host, template, pairs @ ..]) => fill(host, Telling::All, template, pairs),
-            ("merge", [flag, place, host, template, records]) if flag.as_str() == "--at" => {
-                let place = place.parse::<usize>().map_err(|_| Stop::Usage)?;
-                hosted(
-                    host,
-                    Action::MergeAt {
-                        place,
-                        template,
-                        records,
-                    },
-                )
-            }
-            ("merge", [host, template, records]) => hosted(
-                host,
-                Action::Merge { template, records },
-            ),
-            ("work", [host, template, list]) => hosted(host, Action::Work { template, list }),
-            _ => Err(Stop::Usage),
+            (command, words) => hosted(command, words),
         }
     }
 }
 
-fn hosted<'a>(host: &str, action: Action<'a>) -> Result<Job<'a>, Stop<'a>> {
+fn hosted<'a>(command: &str, words: &'a [String]) -> Result<Job<'a>, Stop<'a>> {
+    let (host, action) = match (command, words) {
+        ("check", [host, template]) => (host, Action::Check { template }),
+        ("list", [flag, host, text]) if flag.as_str() == "--raw" => (
+            host,
+            Action::ListRaw { text },
+        ),
+        ("list", [host, text]) => (host, Action::List { text }),
+        ("fill", [flag, host, template, pairs @ ..]) if flag.as_str() == "-q" => {
+            (host, Action::FillQuietly { template, pairs })
+        }
+        ("fill", [host, template, pairs @ ..]) => (host, Action::Fill { template, pairs }),
+        ("merge", [flag, place, host, template, records]) if flag.as_str() == "--at" => {
+            let place = place.parse::<usize>().map_err(|_| Stop::Usage)?;
+            (
+                host,
+                Action::MergeAt {
+                    place,
+                    template,
+                    records,
+                },
+            )
+        }
+        ("merge", [host, template, records]) => (host, Action::Merge { template, records }),
+        ("work", [host, template, list]) => (host, Action::Work { template, list }),
+        _ => return Err(Stop::Usage),
+    };
     let host = host.parse::<HostName>()?;
     Ok(Job::Hosted { host, action })
-}
-
-fn fill<'a>(
-    host: &str,
-    telling: Telling,
-    template: &'a str,
-    pairs: &'a [String],
-) -> Result<Job<'a>, Stop<'a>> {
-    let action = Action::Fill {
-        telling,
-        template,
-        pairs,
-    };
-    hosted(host, action)
 }

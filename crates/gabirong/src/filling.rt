@@ -1,18 +1,13 @@
 // The command `fill`: values by name, filled into a template.
-use crate::check::holes_of;
-use crate::command::Telling;
+use crate::check::{accepted, holes_of};
 use crate::input::read_whole;
-use crate::refusal::Refusal;
 use crate::stop::Stop;
 use crate::working::{Done, Told, go_down, tell_end};
 use host::Host;
 use outline::visits;
 use std::alloc::Global;
-use std::io;
 use std::io::Write;
-use template::check::check;
 use template::item::Hole;
-use template::raw::Raw;
 use worklist::line::{Answer, Line};
 
 // A value for a hole, with the hole's name.
@@ -32,32 +27,60 @@ impl<'a> From<&Bind<'a>> for Line<'a> {
     }
 }
 
-// Binds each value to the holes of its name, in the order given, and prints the text.
+// Binds each value to the holes of its name, in the order given, tells what came of it, and prints the text.
 pub fn fill_template<'a, H: Host + Drop>(
     rt: &HostRuntime,
     host: H,
-    telling: Telling,
     path: &'a str,
     pairs: &'a [String],
 ) -> Result<(), Stop<'a>> {
-    let file = read_whole(rt, path)?;
-    if let Err(fault) = check(Raw::new(file.as_slice()), &host) {
-        return Err(Stop::TextRefused(Refusal { fault, text: file }));
+    let (file, binds) = read_bound(rt, &host, path, pairs)?;
+    println!(rt; "read {path}: {} bytes", file.len())?;
+    let done = fill(rt.alloc(), host, file, binds.as_slice())?;
+    for (bind, answer) in binds.iter().zip(done.answers.as_slice()) {
+        println!(rt; "bind {} {}: {}", bind.hole, bind.name, Told(answer))?;
     }
-    let binds = binds_of(rt.alloc(), &host, file.as_slice(), pairs)?;
-    let lines: Vec<Line<'_>> = binds.iter().map(Line::from).collect(rt.alloc())?;
-    match telling {
-        Telling::All => {
-            println!(rt; "read {path}: {} bytes", file.len())?;
-            let done = go_down(rt.alloc(), host, file, lines.as_slice())?;
-            tell_binds(rt, binds.as_slice(), done.answers.as_slice())?;
-            tell_end(rt, done)
-        }
-        Telling::Text => {
-            let done = go_down(rt.alloc(), host, file, lines.as_slice())?;
-            tell_text(rt, done)
+    tell_end(rt, done)
+}
+
+// The same, with the text alone printed; binds that are refused are told on standard error.
+pub fn fill_quietly<'a, H: Host + Drop>(
+    rt: &HostRuntime,
+    host: H,
+    path: &'a str,
+    pairs: &'a [String],
+) -> Result<(), Stop<'a>> {
+    let (file, binds) = read_bound(rt, &host, path, pairs)?;
+    let done = fill(rt.alloc(), host, file, binds.as_slice())?;
+    for answer in done.answers.as_slice() {
+        if let Answer::Refused(fault) = answer {
+            eprintln!(rt; "refused {fault}")?;
         }
     }
+    rt.stdout().write_all(done.text?.as_slice())?;
+    Ok(())
+}
+
+// A template that is accepted, and the binds of the pairs.
+fn read_bound<'a, H: Host>(
+    rt: &HostRuntime,
+    host: &H,
+    path: &'a str,
+    pairs: &'a [String],
+) -> Result<(Vec<u8>, Vec<Bind<'a>>), Stop<'a>> {
+    let (file, _) = accepted(host, read_whole(rt, path)?)?;
+    let binds = binds_of(rt.alloc(), host, file.as_slice(), pairs)?;
+    Ok((file, binds))
+}
+
+fn fill<H: Host + Drop>(
+    heap: Global,
+    host: H,
+    template: Vec<u8>,
+    binds: &[Bind<'_>],
+) -> Result<Done, Stop<'static>> {
+    let lines: Vec<Line<'_>> = binds.iter().map(Line::from).collect(heap)?;
+    go_down(heap, host, template, lines.as_slice())
 }
 
 // A bind for each pair and each hole of its name. Each pair is a `NAME=VALUE` with a name that some hole has, and no
@@ -90,30 +113,10 @@ fn add_binds<'a>(
     if !holes.iter().any(|hole| hole.name == name.as_bytes()) {
         return Err(Stop::NoHoleNamed(name));
     }
-    for (hole, named) in holes.iter().enumerate() {
-        if named.name == name.as_bytes() {
-            binds.push(Bind { hole, name, value })?;
-        }
-    }
-    Ok(())
-}
-
-fn tell_binds(rt: &HostRuntime, binds: &[Bind<'_>], answers: &[Answer]) -> io::Result<()> {
-    for (bind, answer) in binds.iter().zip(answers) {
-        let Bind { hole, name, .. } = *bind;
-        println!(rt; "bind {hole} {name}: {}", Told(answer))?;
-    }
-    Ok(())
-}
-
-// The text alone; binds that are refused are told on standard error.
-fn tell_text(rt: &HostRuntime, done: Done) -> Result<(), Stop<'static>> {
-    for answer in done.answers.as_slice() {
-        if let Answer::Refused(fault) = answer {
-            eprintln!(rt; "refused {fault}")?;
-        }
-    }
-    let text = done.text?;
-    rt.stdout().write_all(text.as_slice())?;
+    let named = holes
+        .iter()
+        .enumerate()
+        .filter(|(_, hole)| hole.name == name.as_bytes());
+    binds.extend(named.map(|(hole, _)| Bind { hole, name, value }))?;
     Ok(())
 }

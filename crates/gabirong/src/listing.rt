@@ -4,7 +4,6 @@ ghost use Rattle.std.specs.Iterator.{at_most};
 
 use crate::input::read_whole;
 use crate::kinds::KindNames;
-use crate::refusal::Refusal;
 use crate::shown::{Count, Quoted, Shown};
 use crate::stop::Stop;
 use fault::Fault;
@@ -22,15 +21,14 @@ pub fn list_text<'a, H: Host + KindNames>(
     let text = read_whole(rt, path)?;
     println!(rt; "read {path}: {} bytes", text.len())?;
     let listing = listing_of(rt.alloc(), host, text)?;
-    let mut count = 0usize;
     for (number, (kind, value)) in Fields(listing.as_slice()).enumerate() {
         let name = host.kind_name(kind);
         println!(rt;
             "token {number} kind {kind} {name} {}",
             Shown(value, Quoted)
         )?;
-        count = number.saturating_add(1);
     }
+    let count = Fields(listing.as_slice()).count();
     println!(rt; "listed: {}", Count(count, "token"))?;
     Ok(())
 }
@@ -49,12 +47,12 @@ fn listing_of<H: Host>(heap: Global, host: &H, text: Vec<u8>) -> Result<Vec<u8>,
     let needed = match list(host, text.as_slice(), &mut []) {
         Ok(len) => len,
         Err(Fault::OutputTooShort { needed }) => needed,
-        Err(fault) => return Err(Stop::TextRefused(Refusal { fault, text })),
+        Err(fault) => return Err(Stop::TextRefused(fault, text)),
     };
     let mut fields = vec![in heap; 0; needed]?;
     match list(host, text.as_slice(), fields.as_mut_slice()) {
         Ok(_) => Ok(fields),
-        Err(fault) => Err(Stop::TextRefused(Refusal { fault, text })),
+        Err(fault) => Err(Stop::TextRefused(fault, text)),
     }
 }
 

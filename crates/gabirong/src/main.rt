@@ -11,7 +11,6 @@ mod listing;
 mod merging;
 mod pack;
 mod records;
-mod refusal;
 mod shown;
 mod stop;
 mod working;
@@ -19,7 +18,7 @@ mod working;
 use check::check_template;
 use command::{Action, HostName, Job};
 use csv_host::Csv;
-use filling::fill_template;
+use filling::{fill_quietly, fill_template};
 use host::Host;
 use kinds::KindNames;
 use listing::{list_raw, list_text};
@@ -55,11 +54,8 @@ fn perform<'a, H: Host + KindNames + Drop>(
         Action::Check { template } => check_template(rt, &host, template),
         Action::List { text } => list_text(rt, &host, text),
         Action::ListRaw { text } => list_raw(rt, &host, text),
-        Action::Fill {
-            telling,
-            template,
-            pairs,
-        } => fill_template(rt, host, telling, template, pairs),
+        Action::Fill { template, pairs } => fill_template(rt, host, template, pairs),
+        Action::FillQuietly { template, pairs } => fill_quietly(rt, host, template, pairs),
         Action::Merge { template, records } => merge_all(rt, host, template, records),
         Action::MergeAt {
             place,

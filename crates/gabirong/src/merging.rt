@@ -1,8 +1,8 @@
 // The command `merge`: the records of a file, each filled into a template.
 ghost use Rattle.std.specs.Prelude.{◌≡◌, ◌<◌, ◌≤◌, IfOk, IfSome, vec_len};
 
+use crate::check::accepted;
 use crate::input::read_both;
-use crate::refusal::Refusal;
 use crate::stop::Stop;
 use crate::working::MAX_TEXT;
 use host::Host;
@@ -10,7 +10,6 @@ use merge::merge;
 use merge::merged::Merged;
 use printer::sheet::Sheet;
 use std::io::Write;
-use template::check::check;
 use template::raw::Raw;
 
 // After how many records progress is told.
@@ -34,12 +33,7 @@ impl<H: Host + Drop> Merging<H> {
     ) -> Result<Merging<H>, Stop<'a>> {
         let (template, input) = read_both(rt, template, records)?;
         let out = vec![in rt.alloc(); 0; MAX_TEXT]?;
-        if let Err(fault) = check(Raw::new(template.as_slice()), &host) {
-            return Err(Stop::TextRefused(Refusal {
-                fault,
-                text: template,
-            }));
-        }
+        let (template, _) = accepted(&host, template)?;
         Ok(Merging {
             sheet: Sheet::new(host),
             template,

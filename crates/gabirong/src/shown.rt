@@ -66,6 +66,28 @@ impl<S: Style> fmt::Display for Shown<'_, S> {
     }
 }
 
+// The line of a text that has a place, with a caret under the place.
+#[derive(Clone, Copy)]
+pub struct LineAt<'a>(pub &'a [u8], pub usize);
+
+impl fmt::Display for LineAt<'_> {
+    fn fmt<W: fmt::Write>(&self, f: &mut fmt::Formatter<W>) -> fmt::Result {
+        let LineAt(text, place) = *self;
+        let (before, after) = text.split_at(place.min(text.len()));
+        let before = before.rsplit(is_line_feed).next().unwrap_or(before);
+        let after = after.split(is_line_feed).next().unwrap_or(after);
+        writeln!(f, "{}{}", Shown(before, Line), Shown(after, Line))?;
+        for byte in before {
+            f.write_str(if Line::is_plain(*byte) { " " } else { "    " })?;
+        }
+        f.write_char('^')
+    }
+}
+
+fn is_line_feed(byte: &u8) -> bool {
+    *byte == b'\n'
+}
+
 // How many things there are, as `1 hole` or `2 holes`.
 #[derive(Clone, Copy)]
 pub struct Count(pub usize, pub &'static str);

@@ -1,7 +1,6 @@
 // Why a command is not done, as standard error tells it.
 use crate::input::Unreadable;
-use crate::refusal::Refusal;
-use crate::shown::{Line, Shown};
+use crate::shown::{Line, LineAt, Shown};
 use anyhow::anyhow;
 use fault::Fault;
 use outline::Untold;
@@ -37,7 +36,7 @@ pub enum Stop<'a> {
     NoHoleNamed(&'a str),
     // A refusal by itself, one of a text, and one of the record at a place.
     Refused(Fault),
-    TextRefused(Refusal),
+    TextRefused(Fault, Vec<u8>),
     RecordRefused(Fault, usize),
     Failed(anyhow::Error),
 }
@@ -59,16 +58,13 @@ impl fmt::Display for Stop<'_> {
                 Shown(name.as_bytes(), Line)
             ),
             Stop::Refused(fault) => write!(f, "refused {fault}"),
-            Stop::TextRefused(refusal) => write!(f, "{refusal}"),
+            Stop::TextRefused(fault, text) => {
+                let line = LineAt(text.as_slice(), fault.place());
+                write!(f, "refused {fault}\n{line}")
+            }
             Stop::RecordRefused(fault, place) => write!(f, "refused {fault}\nrecord at {place}"),
             Stop::Failed(error) => write!(f, "gabirong: {error}"),
         }
-    }
-}
-
-impl From<anyhow::Error> for Stop<'_> {
-    fn from(error: anyhow::Error) -> Self {
-        Stop::Failed(error)
     }
 }
 

@@ -1,7 +1,6 @@
 // The command `work`: a list of lines that fill a template.
 use crate::input::read_both;
 use crate::lines::{Unread, unescaped};
-use crate::refusal::Refusal;
 use crate::shown::Count;
 use crate::stop::Stop;
 use anyhow::anyhow;
@@ -153,10 +152,7 @@ pub fn go_down<H: Host + Drop>(
                 text,
             })
         }
-        Err(Unworked::Refused(fault)) => Err(Stop::TextRefused(Refusal {
-            fault,
-            text: template,
-        })),
+        Err(Unworked::Refused(fault)) => Err(Stop::TextRefused(fault, template)),
         Err(Unworked::NoMemory) => Err(Stop::Failed(anyhow!("no memory for the answers"))),
     }
 }
