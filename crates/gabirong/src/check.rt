@@ -1,36 +1,29 @@
 // The command `check`: whether a host takes a template, and how it reads it.
-use crate::Outcome;
 use crate::input::read_whole;
-use crate::refusal::refuse;
-use crate::shown::{Line, Quoted, show_quoted};
-use anyhow::anyhow;
+use crate::kinds::KindNames;
+use crate::shown::{Count, Line, Quoted, Shown, Style};
+use crate::stop::Stop;
 use host::Host;
-use outline::{Symbol, Token, Untold, Visit, plan, visits};
+use outline::{Symbol, Token, Visit, plan, visits};
 use std::alloc::{AllocError, Global};
 use std::{fmt, io};
 use template::check::{check, survey};
 use template::item::{Hole, Item};
 use template::raw::Raw;
 
-// Prints each action, and how the template is read; `kinds` are the names of the host's kinds of tokens, from 1.
-pub fn check_template<H: Host>(
+// Prints each action, and how the template is read.
+pub fn check_template<'a, H: Host + KindNames>(
     rt: &HostRuntime,
     host: &H,
-    kinds: &[&str],
-    path: &str,
-) -> anyhow::Result<Outcome> {
-    let Some(file) = read_whole(rt, path)? else {
-        return Ok(Outcome::Refused);
-    };
+    path: &'a str,
+) -> Result<(), Stop<'a>> {
+    let file = read_whole(rt, path)?;
+    println!(rt; "read {path}: {} bytes", file.len())?;
+    let (file, count) = accepted(host, file)?;
     let template = file.as_slice();
-    println!(rt; "read {path}: {} bytes", template.len())?;
-    let count = match check(Raw::new(template), host) {
-        Ok(checked) => checked.holes(),
-        Err(fault) => return refuse(rt, fault, template),
-    };
-    let visits = outlined(visits(rt.alloc(), template, host))?;
+    let visits = visits(rt.alloc(), template, host)?;
     let holes = holes_of(rt.alloc(), visits.as_slice())?;
-    let tokens = outlined(plan(rt.alloc(), template, host))?;
+    let tokens = plan(rt.alloc(), template, host)?;
     println!(rt; "items, each with its place and the context that reads it:")?;
     tell_items(rt, template, visits.as_slice())?;
     println!(rt; "holes, each with its number, name, place and body:")?;
@@ -38,125 +31,99 @@ pub fn check_template<H: Host>(
         tell_holes(rt, holes.as_slice(), &survey.bodies)?;
     }
     println!(rt; "plan, the tokens that the text will read as:")?;
-    tell_plan(rt, tokens.as_slice(), holes.as_slice(), kinds)?;
-    let s = if count == 1 { "" } else { "s" };
-    println!(rt; "checked: {count} hole{s}")?;
-    Ok(Outcome::Done)
+    tell_plan(rt, host, tokens.as_slice(), holes.as_slice())?;
+    println!(rt; "checked: {}", Count(count, "hole"))?;
+    Ok(())
 }
 
-// A template that is checked has an outline, but for want of memory.
-pub fn outlined<T: Drop>(outline: Result<T, Untold>) -> anyhow::Result<T> {
-    match outline {
-        Ok(told) => Ok(told),
-        Err(_) => Err(anyhow!("no memory for the outline")),
-    }
+// A template that the host accepts, and the number of its holes.
+pub fn accepted<H: Host>(host: &H, template: Vec<u8>) -> Result<(Vec<u8>, usize), Stop<'static>> {
+    let holes = match check(Raw::new(template.as_slice()), host) {
+        Ok(checked) => checked.holes(),
+        Err(fault) => return Err(Stop::TextRefused(fault, template)),
+    };
+    Ok((template, holes))
 }
 
 // The holes in order, which is their numbers.
 pub fn holes_of<'t>(heap: Global, visits: &[Visit<'t>]) -> Result<Vec<Hole<'t>>, AllocError> {
-    let mut holes = Vec::new(heap);
-    for visit in visits {
-        if let Item::Hole(hole) = visit.item {
-            holes.push(hole)?;
-        }
-    }
-    Ok(holes)
+    visits
+        .iter()
+        .filter_map(|visit| match visit.item {
+            Item::Hole(hole) => Some(hole),
+            Item::Literal(_) => None,
+        })
+        .collect(heap)
 }
 
 // A line for each escape and each hole, and for each row of other literals that one context reads.
-fn tell_items(rt: &HostRuntime, template: &[u8], visits: &[Visit<'_>]) -> anyhow::Result<()> {
-    let mut literals = Literals::new(rt.alloc());
-    for visit in visits {
-        let place = visit.place;
-        let context = visit.context;
-        match visit.item {
-            Item::Literal(byte) if template.get(place) != Some(&b'@') => {
-                if context != literals.context {
-                    literals.tell(rt)?;
-                }
-                literals.add(place, context, byte)?;
-            }
-            Item::Literal(byte) => {
-                literals.tell(rt)?;
-                println!(rt;
-                    "place {place} context {context} escape {}",
-                    Quoted(&[byte])
-                )?;
-            }
-            Item::Hole(hole) => {
-                literals.tell(rt)?;
-                println!(rt; "place {place} context {context} hole {}", Line(hole.name))?;
-            }
-        }
-    }
-    literals.tell(rt)?;
-    Ok(())
-}
-
-// Literals that one context reads, not yet printed: where the first stands, and their bytes.
-#[derive(Drop)]
-struct Literals {
-    place: usize,
-    context: u8,
-    bytes: Vec<u8>,
-}
-
-impl Literals {
-    fn new(heap: Global) -> Literals {
-        Literals {
-            place: 0,
-            context: 0,
-            bytes: Vec::new(heap),
-        }
-    }
-
-    fn add(&mut self, place: usize, context: u8, byte: u8) -> Result<(), AllocError> {
-        if self.bytes.is_empty() {
-            self.place = place;
-            self.context = context;
-        }
-        self.bytes.push(byte)?;
-        Ok(())
-    }
-
-    // Prints them, if there are any, and forgets them.
-    fn tell(&mut self, rt: &HostRuntime) -> io::Result<()> {
-        if !self.bytes.is_empty() {
-            let place = self.place;
-            let context = self.context;
+fn tell_items(
+    rt: &HostRuntime,
+    template: &[u8],
+    visits: &[Visit<'_>],
+) -> Result<(), Stop<'static>> {
+    let in_row = |one: &Visit<'_>, next: &Visit<'_>| {
+        is_plain(template, one) && is_plain(template, next) && one.context == next.context
+    };
+    for row in visits.chunk_by(in_row) {
+        let [first, ..] = row else {
+            continue;
+        };
+        let place = first.place;
+        let context = first.context;
+        if let Item::Hole(hole) = first.item {
             println!(rt;
-                "place {place} context {context} literal {}",
-                Quoted(self.bytes.as_slice())
+                "place {place} context {context} hole {}",
+                Shown(hole.name, Line)
             )?;
-            self.bytes.clear();
+            continue;
         }
-        Ok(())
-    }
-}
-
-fn tell_holes(rt: &HostRuntime, holes: &[Hole<'_>], bodies: &[u8]) -> io::Result<()> {
-    for (number, (hole, body)) in holes.iter().zip(bodies.iter()).enumerate() {
-        let place = hole.place;
+        let word = if is_plain(template, first) {
+            "literal"
+        } else {
+            "escape"
+        };
+        let bytes: Vec<u8> = row.iter().filter_map(literal).collect(rt.alloc())?;
         println!(rt;
-            "hole {number} {} place {place} body {body}",
-            Line(hole.name)
+            "place {place} context {context} {word} {}",
+            Shown(bytes.as_slice(), Quoted)
         )?;
     }
     Ok(())
 }
 
-fn tell_plan<'x>(
+// Whether an item is a literal that stands in the template as itself.
+fn is_plain(template: &[u8], visit: &Visit<'_>) -> bool {
+    literal(visit).is_some() && template.get(visit.place) != Some(&b'@')
+}
+
+fn literal(visit: &Visit<'_>) -> Option<u8> {
+    match visit.item {
+        Item::Literal(byte) => Some(byte),
+        Item::Hole(_) => None,
+    }
+}
+
+fn tell_holes(rt: &HostRuntime, holes: &[Hole<'_>], bodies: &[u8]) -> io::Result<()> {
+    for (number, (hole, body)) in holes.iter().zip(bodies).enumerate() {
+        let place = hole.place;
+        println!(rt;
+            "hole {number} {} place {place} body {body}",
+            Shown(hole.name, Line)
+        )?;
+    }
+    Ok(())
+}
+
+fn tell_plan<'x, H: KindNames>(
     rt: &HostRuntime,
+    host: &H,
     tokens: &'x [Token],
     holes: &'x [Hole<'x>],
-    kinds: &[&str],
 ) -> io::Result<()> {
     for (number, token) in tokens.iter().enumerate() {
         let kind = token.kind;
-        let name = kinds
-            .get(usize::from(kind).saturating_sub(1))
-            .copied()
-            .unwrap_or("");
+        let name = host.kind_name(kind);
         let value = Value {
             symbols: token.value.as_slice(),
             holes,
@@ -179,10 +146,10 @@ impl fmt::Display for Value<'_> {
         for symbol in self.symbols {
             match symbol {
                 Symbol::Byte(b'@') => write!(f, "@@")?,
-                Symbol::Byte(byte) => show_quoted(*byte, f)?,
+                Symbol::Byte(byte) => Quoted::show(*byte, f)?,
                 Symbol::Mark(number) => {
                     if let Some(hole) = self.holes.get(*number) {
-                        write!(f, "@{{{}}}", Line(hole.name))?;
+                        write!(f, "@{{{}}}", Shown(hole.name, Line))?;
                     }
                 }
             }

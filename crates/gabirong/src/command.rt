@@ -1,4 +1,26 @@
 // The command line.
+use crate::stop::Stop;
+use std::str::FromStr;
+
+#[derive(Clone, Copy)]
+pub enum HostName {
+    Shell,
+    Sql,
+    Csv,
+}
+
+impl FromStr for HostName {
+    type Err = Stop<'static>;
+
+    fn from_str(name: &str) -> Result<HostName, Stop<'static>> {
+        match name {
+            "shell" => Ok(HostName::Shell),
+            "sql" => Ok(HostName::Sql),
+            "csv" => Ok(HostName::Csv),
+            _ => Err(Stop::Usage),
+        }
+    }
+}
 
 // What is to be done under a host.
 #[derive(Clone, Copy)]
@@ -12,9 +34,13 @@ pub enum Action<'a> {
     ListRaw {
         text: &'a str,
     },
-    // Each pair is `NAME=VALUE`. Quiet, the text alone is printed.
+    // Each pair is `NAME=VALUE`.
     Fill {
-        quiet: bool,
+        template: &'a str,
+        pairs: &'a [String],
+    },
+    // The same, with the text alone printed.
+    FillQuietly {
         template: &'a str,
         pairs: &'a [String],
     },
@@ -34,112 +60,44 @@ pub enum Action<'a> {
     },
 }
 
-// What the command line asks for: an action under the host of that name; or something that needs no host.
+// What the command line asks for: an action under a host, or something that needs none.
 #[derive(Clone, Copy)]
 pub enum Job<'a> {
-    Hosted { host: &'a str, action: Action<'a> },
+    Hosted { host: HostName, action: Action<'a> },
     Records { file: &'a str },
     Pack { file: &'a str },
 }
 
-// The job that the words of the command line give, if they give one.
-pub fn job_asked<'a>(words: &'a [String]) -> Option<Job<'a>> {
-    let (name, rest) = words.split_first()?;
-    match name.as_str() {
-        "pack" => pack_asked(rest),
-        "records" => records_asked(rest),
-        "check" => check_asked(rest),
-        "list" => list_asked(rest),
-        "fill" => fill_asked(rest),
-        "merge" => merge_asked(rest),
-        "work" => work_asked(rest),
-        _ => None,
-    }
-}
+impl<'a> TryFrom<&'a [String]> for Job<'a> {
+    type Error = Stop<'a>;
 
-fn hosted<'a>(host: &'a String, action: Action<'a>) -> Option<Job<'a>> {
-    Some(Job::Hosted {
-        host: host.as_str(),
-        action,
-    })
-}
-
-// Without a file, standard input.
-fn pack_asked<'a>(words: &'a [String]) -> Option<Job<'a>> {
-    match words {
-        [] => Some(Job::Pack { file: "-" }),
-        [file] => Some(Job::Pack {
-            file: file.as_str(),
-        }),
-        _ => None,
-    }
-}
-
-fn records_asked<'a>(words: &'a [String]) -> Option<Job<'a>> {
-    let [file] = words else {
-        return None;
-    };
-    Some(Job::Records {
-        file: file.as_str(),
-    })
-}
-
-fn check_asked<'a>(words: &'a [String]) -> Option<Job<'a>> {
-    let [host, template] = words else {
-        return None;
-    };
-    let template = template.as_str();
-    hosted(host, Action::Check { template })
-}
-
-fn list_asked<'a>(words: &'a [String]) -> Option<Job<'a>> {
-    match words {
-        [flag, host, text] if flag.as_str() == "--raw" => {
-            let text = text.as_str();
-            hosted(host, Action::ListRaw { text })
+    fn try_from(words: &'a [String]) -> Result<Job<'a>, Stop<'a>> {
+        let (command, words) = words.split_first().ok_or(Stop::Usage)?;
+        match (command.as_str(), words) {
+            // Without a file, standard input.
+            ("pack", []) => Ok(Job::Pack { file: "-" }),
+            ("pack", [file]) => Ok(Job::Pack { file }),
+            ("records", [file]) => Ok(Job::Records { file }),
+            (command, words) => hosted(command, words),
         }
-        [host, text] => {
-            let text = text.as_str();
-            hosted(host, Action::List { text })
-        }
-        _ => None,
     }
 }
 
-fn fill_asked<'a>(words: &'a [String]) -> Option<Job<'a>> {
-    match words {
-        [flag, host, template, pairs @ ..] if flag.as_str() == "-q" => {
-            fill_with(true, host, template, pairs)
+fn hosted<'a>(command: &str, words: &'a [String]) -> Result<Job<'a>, Stop<'a>> {
+    let (host, action) = match (command, words) {
+        ("check", [host, template]) => (host, Action::Check { template }),
+        ("list", [flag, host, text]) if flag.as_str() == "--raw" => (
+            host,
+            Action::ListRaw { text },
+        ),
+        ("list", [host, text]) => (host, Action::List { text }),
+        ("fill", [flag, host, template, pairs @ ..]) if flag.as_str() == "-q" => {
+            (host, Action::FillQuietly { template, pairs })
         }
-        [host, template, pairs @ ..] => fill_with(false, host, template, pairs),
-        _ => None,
-    }
-}
-
-fn fill_with<'a>(
-    quiet: bool,
-    host: &'a String,
-    template: &'a String,
-    pairs: &'a [String],
-) -> Option<Job<'a>> {
-    let template = template.as_str();
-    hosted(
-        host,
-        Action::Fill {
-            quiet,
-            template,
-            pairs,
-        },
-    )
-}
-
-fn merge_asked<'a>(words: &'a [String]) -> Option<Job<'a>> {
-    match words {
-        [flag, place, host, template, records] if flag.as_str() == "--at" => {
-            let place = place.as_str().parse::<usize>().ok()?;
-            let template = template.as_str();
-            let records = records.as_str();
-            hosted(
+        ("fill", [host, template, pairs @ ..]) => (host, Action::Fill { template, pairs }),
+        ("merge", [flag, place, host, template, records]) if flag.as_str() == "--at" => {
+            let place = place.parse::<usize>().map_err(|_| Stop::Usage)?;
+            (
                 host,
                 Action::MergeAt {
                     place,
@@ -148,20 +106,10 @@ fn merge_asked<'a>(words: &'a [String]) -> Option<Job<'a>> {
                 },
             )
         }
-        [host, template, records] => {
-            let template = template.as_str();
-            let records = records.as_str();
-            hosted(host, Action::Merge { template, records })
-        }
-        _ => None,
-    }
-}
-
-fn work_asked<'a>(words: &'a [String]) -> Option<Job<'a>> {
-    let [host, template, list] = words else {
-        return None;
+        ("merge", [host, template, records]) => (host, Action::Merge { template, records }),
+        ("work", [host, template, list]) => (host, Action::Work { template, list }),
+        _ => return Err(Stop::Usage),
     };
-    let template = template.as_str();
-    let list = list.as_str();
-    hosted(host, Action::Work { template, list })
+    let host = host.parse::<HostName>()?;
+    Ok(Job::Hosted { host, action })
 }

@@ -1,31 +1,45 @@
+// Files, read whole.
+use crate::stop::Stop;
 use std::io::Read;
-use std::{fs, io};
+use std::{fmt, fs, io};
 
-// A whole file; `-` is standard input. Where it cannot be read, none, and the reason is printed.
-pub fn read_whole(rt: &HostRuntime, path: &str) -> anyhow::Result<Option<Vec<u8>>> {
-    match bytes_of(rt, path) {
-        Ok(bytes) => Ok(Some(bytes)),
-        Err(error) => {
-            eprintln!(rt; "cannot read {path}: {error}")?;
-            Ok(None)
-        }
+// A file that cannot be read, and why.
+#[derive(Drop)]
+pub struct Unreadable<'a> {
+    path: &'a str,
+    error: io::Error,
+}
+
+impl fmt::Display for Unreadable<'_> {
+    fn fmt<W: fmt::Write>(&self, f: &mut fmt::Formatter<W>) -> fmt::Result {
+        let path = self.path;
+        write!(f, "cannot read {path}: {}", self.error)
     }
 }
 
-// Two whole files, of which one may be standard input. Where they cannot be read, none, and the reason is printed.
-pub fn read_both(
+// A whole file; `-` is standard input.
+pub fn read_whole<'a>(rt: &HostRuntime, path: &'a str) -> Result<Vec<u8>, Stop<'a>> {
+    read(rt, path).map_err(Stop::Unreadable)
+}
+
+// Two whole files, of which one may be standard input.
+pub fn read_both<'a>(
     rt: &HostRuntime,
-    first: &str,
-    second: &str,
-) -> anyhow::Result<Option<(Vec<u8>, Vec<u8>)>> {
+    first: &'a str,
+    second: &'a str,
+) -> Result<(Vec<u8>, Vec<u8>), Stop<'a>> {
     if first == "-" && second == "-" {
-        eprintln!(rt; "only one of the files can be standard input")?;
-        return Ok(None);
+        return Err(Stop::InputTwice);
     }
-    match (read_whole(rt, first)?, read_whole(rt, second)?) {
-        (Some(first), Some(second)) => Ok(Some((first, second))),
-        _ => Ok(None),
+    match (read(rt, first), read(rt, second)) {
+        (Ok(first), Ok(second)) => Ok((first, second)),
+        (Err(first), Err(second)) => Err(Stop::BothUnreadable(first, second)),
+        (Err(file), Ok(_)) | (Ok(_), Err(file)) => Err(Stop::Unreadable(file)),
     }
+}
+
+fn read<'a>(rt: &HostRuntime, path: &'a str) -> Result<Vec<u8>, Unreadable<'a>> {
+    bytes_of(rt, path).map_err(|error| Unreadable { path, error })
 }
 
 fn bytes_of(rt: &HostRuntime, path: &str) -> io::Result<Vec<u8>> {

@@ -1,82 +1,77 @@
 // The command `list`: how a host reads a text.
-use crate::Outcome;
+ghost use Rattle.std.specs.Prelude.{length};
+ghost use Rattle.std.specs.Iterator.{at_most};
+
 use crate::input::read_whole;
-use crate::refusal::refuse;
-use crate::shown::Quoted;
+use crate::kinds::KindNames;
+use crate::shown::{Count, Quoted, Shown};
+use crate::stop::Stop;
 use fault::Fault;
 use host::Host;
 use reading::list;
-use std::io;
+use std::alloc::Global;
 use std::io::Write;
 
-// Prints a line for each token; `kinds` are the names of the host's kinds of tokens, from 1.
-pub fn list_text<H: Host>(
+// Prints a line for each token.
+pub fn list_text<'a, H: Host + KindNames>(
     rt: &HostRuntime,
     host: &H,
-    kinds: &[&str],
-    path: &str,
-) -> anyhow::Result<Outcome> {
-    let Some(text) = read_whole(rt, path)? else {
-        return Ok(Outcome::Refused);
-    };
+    path: &'a str,
+) -> Result<(), Stop<'a>> {
+    let text = read_whole(rt, path)?;
     println!(rt; "read {path}: {} bytes", text.len())?;
-    match fields_of(rt, host, text.as_slice())? {
-        Ok(fields) => {
-            let count = tell_tokens(rt, fields.as_slice(), kinds)?;
-            let s = if count == 1 { "" } else { "s" };
-            println!(rt; "listed: {count} token{s}")?;
-            Ok(Outcome::Done)
-        }
-        Err(fault) => refuse(rt, fault, text.as_slice()),
+    let listing = listing_of(rt.alloc(), host, text)?;
+    for (number, (kind, value)) in Fields(listing.as_slice()).enumerate() {
+        let name = host.kind_name(kind);
+        println!(rt;
+            "token {number} kind {kind} {name} {}",
+            Shown(value, Quoted)
+        )?;
     }
+    let count = Fields(listing.as_slice()).count();
+    println!(rt; "listed: {}", Count(count, "token"))?;
+    Ok(())
 }
 
 // Writes the fields of the tokens, byte for byte, and nothing else.
-pub fn list_raw<H: Host>(rt: &HostRuntime, host: &H, path: &str) -> anyhow::Result<Outcome> {
-    let Some(text) = read_whole(rt, path)? else {
-        return Ok(Outcome::Refused);
-    };
-    match fields_of(rt, host, text.as_slice())? {
-        Ok(fields) => {
-            rt.stdout().write_all(fields.as_slice())?;
-            Ok(Outcome::Done)
-        }
-        Err(fault) => refuse(rt, fault, text.as_slice()),
-    }
+pub fn list_raw<'a, H: Host>(rt: &HostRuntime, host: &H, path: &'a str) -> Result<(), Stop<'a>> {
+    let text = read_whole(rt, path)?;
+    let listing = listing_of(rt.alloc(), host, text)?;
+    rt.stdout().write_all(listing.as_slice())?;
+    Ok(())
 }
 
-// The fields of a text's reading. An output without room tells how much is needed.
-fn fields_of<H: Host>(
-    rt: &HostRuntime,
-    host: &H,
-    text: &[u8],
-) -> anyhow::Result<Result<Vec<u8>, Fault>> {
-    let needed = match list(host, text, &mut []) {
+// The fields of a text's reading.
+fn listing_of<H: Host>(heap: Global, host: &H, text: Vec<u8>) -> Result<Vec<u8>, Stop<'static>> {
+    // An output without room tells how much is needed.
+    let needed = match list(host, text.as_slice(), &mut []) {
         Ok(len) => len,
         Err(Fault::OutputTooShort { needed }) => needed,
-        Err(fault) => return Ok(Err(fault)),
+        Err(fault) => return Err(Stop::TextRefused(fault, text)),
     };
-    let mut fields = vec![in rt.alloc(); 0; needed]?;
-    match list(host, text, fields.as_mut_slice()) {
-        Ok(_) => Ok(Ok(fields)),
-        Err(fault) => Ok(Err(fault)),
+    let mut fields = vec![in heap; 0; needed]?;
+    match list(host, text.as_slice(), fields.as_mut_slice()) {
+        Ok(_) => Ok(fields),
+        Err(fault) => Err(Stop::TextRefused(fault, text)),
     }
 }
 
-// A line for each field; how many there are.
-fn tell_tokens(rt: &HostRuntime, fields: &[u8], kinds: &[&str]) -> io::Result<usize> {
-    let mut rest = fields;
-    let mut number = 0usize;
-    while let [kind, high, low, after @ ..] = rest {
-        let len = usize::from(*high) * 256 + usize::from(*low);
-        let (value, next) = after.split_at(len.min(after.len()));
-        let name = kinds
-            .get(usize::from(*kind).saturating_sub(1))
-            .copied()
-            .unwrap_or("");
-        println!(rt; "token {number} kind {kind} {name} {}", Quoted(value))?;
-        number = number.saturating_add(1);
-        rest = next;
+// The kind and the value of each field of a listing.
+#[derive(Drop)]
+struct Fields<'a>(&'a [u8]);
+
+impl<'a> Iterator for Fields<'a> {
+    type Item = (u8, &'a [u8]);
+
+    ghost remaining = { λ s. at_most (length s.0.now) };
+
+    fn next(&mut self) -> Option<(u8, &'a [u8])> {
+        let [kind, high, low, after @ ..] = self.0 else {
+            return None;
+        };
+        let len = usize::from(u16::from_be_bytes([*high, *low]));
+        let (value, rest) = after.split_at(len.min(after.len()));
+        self.0 = rest;
+        Some((*kind, value))
     }
-    Ok(number)
 }

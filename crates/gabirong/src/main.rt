@@ -5,106 +5,84 @@ mod check;
 mod command;
 mod filling;
 mod input;
+mod kinds;
+mod lines;
 mod listing;
 mod merging;
 mod pack;
 mod records;
-mod refusal;
 mod shown;
+mod stop;
 mod working;
 
 use check::check_template;
-use command::{Action, Job, job_asked};
+use command::{Action, HostName, Job};
 use csv_host::Csv;
-use filling::fill_template;
+use filling::{fill_quietly, fill_template};
 use host::Host;
+use kinds::KindNames;
 use listing::{list_raw, list_text};
 use merging::{merge_all, merge_one};
 use pack::pack;
-use printer::sheet::Sheet;
 use records::tell_records;
 use shell::Shell;
 use sql::Sql;
 use std::env;
 use std::process::ExitCode;
+use stop::Stop;
 use working::work_through;
 
-const USAGE: &str = "usage: gabirong check HOST TEMPLATE-FILE
-       gabirong fill [-q] HOST TEMPLATE-FILE NAME=VALUE..
-       gabirong merge [--at PLACE] HOST TEMPLATE-FILE RECORD-FILE
-       gabirong work HOST TEMPLATE-FILE LIST-FILE
-       gabirong list [--raw] HOST TEXT-FILE
-       gabirong records RECORD-FILE
-       gabirong pack [LINES-FILE]
-HOST is shell, sql or csv; a file that is - is standard input";
-
-// How a command ended: done, or refused with the reason printed.
-pub enum Outcome {
-    Done,
-    Refused,
-}
-
-// Does what the command line asks for.
-fn run(rt: &HostRuntime) -> anyhow::Result<Outcome> {
-    let mut words = env::args(rt)?;
-    let _ = words.next();
-    let words: Vec<String> = words.collect(rt.alloc())?;
-    match job_asked(words.as_slice()) {
-        Some(Job::Hosted { host, action }) => match host {
-            "shell" => perform(rt, action, Shell, &["word", "operator"]),
-            "sql" => perform(rt, action, Sql, &["word", "text", "sign"]),
-            "csv" => perform(rt, action, Csv, &["field", "row"]),
-            _ => usage(rt),
+// Does what the words of the command line ask for.
+fn run<'a>(rt: &HostRuntime, words: &'a [String]) -> Result<(), Stop<'a>> {
+    match Job::try_from(words)? {
+        Job::Hosted { host, action } => match host {
+            HostName::Shell => perform(rt, Shell, action),
+            HostName::Sql => perform(rt, Sql, action),
+            HostName::Csv => perform(rt, Csv, action),
         },
-        Some(Job::Records { file }) => tell_records(rt, file),
-        Some(Job::Pack { file }) => pack(rt, file),
-        None => usage(rt),
+        Job::Records { file } => tell_records(rt, file),
+        Job::Pack { file } => pack(rt, file),
     }
 }
 
-// `kinds` are the names of the host's kinds of tokens, from 1.
-fn perform<H: Host + Drop>(
+fn perform<'a, H: Host + KindNames + Drop>(
     rt: &HostRuntime,
-    action: Action<'_>,
     host: H,
-    kinds: &[&str],
-) -> anyhow::Result<Outcome> {
+    action: Action<'a>,
+) -> Result<(), Stop<'a>> {
     match action {
-        Action::Check { template } => check_template(rt, &host, kinds, template),
-        Action::List { text } => list_text(rt, &host, kinds, text),
+        Action::Check { template } => check_template(rt, &host, template),
+        Action::List { text } => list_text(rt, &host, text),
         Action::ListRaw { text } => list_raw(rt, &host, text),
-        Action::Fill {
-            quiet,
-            template,
-            pairs,
-        } => fill_template(rt, &mut Sheet::new(host), quiet, template, pairs),
-        Action::Merge { template, records } => {
-            merge_all(rt, &mut Sheet::new(host), template, records)
-        }
+        Action::Fill { template, pairs } => fill_template(rt, host, template, pairs),
+        Action::FillQuietly { template, pairs } => fill_quietly(rt, host, template, pairs),
+        Action::Merge { template, records } => merge_all(rt, host, template, records),
         Action::MergeAt {
             place,
             template,
             records,
-        } => merge_one(rt, &mut Sheet::new(host), template, records, place),
-        Action::Work { template, list } => {
-            work_through(rt, &mut Sheet::new(host), template, list)
-        }
+        } => merge_one(rt, host, template, records, place),
+        Action::Work { template, list } => work_through(rt, host, template, list),
     }
 }
 
-fn usage(rt: &HostRuntime) -> anyhow::Result<Outcome> {
-    eprintln!(rt; "{USAGE}")?;
-    Ok(Outcome::Refused)
+fn words(rt: &HostRuntime) -> Result<Vec<String>, Stop<'static>> {
+    Ok(env::args(rt)?.skip(1).collect(rt.alloc())?)
 }
 
-// Refused or failed, the status is 1, and nothing is printed but the reason.
+// Where a command is not done, the status is 1, and standard error has the reason.
 fn main(rt: HostRuntime) -> ExitCode {
-    match run(&rt) {
-        Ok(Outcome::Done) => ExitCode::SUCCESS,
-        Ok(Outcome::Refused) => ExitCode::FAILURE,
-        Err(error) => {
-            let _ = eprintln!(rt; "gabirong: {error}");
-            ExitCode::FAILURE
-        }
+    let words = match words(&rt) {
+        Ok(words) => words,
+        Err(stop) => return tell(&rt, &stop),
+    };
+    match run(&rt, words.as_slice()) {
+        Ok(()) => ExitCode::SUCCESS,
+        Err(stop) => tell(&rt, &stop),
     }
+}
+
+fn tell(rt: &HostRuntime, stop: &Stop<'_>) -> ExitCode {
+    let _ = eprintln!(rt; "{stop}");
+    ExitCode::FAILURE
 }

@@ -1,14 +1,15 @@
 // The command `pack`: the lines of `records`, back to a record file.
-use crate::Outcome;
 use crate::input::read_whole;
-use crate::shown::unescaped;
-use anyhow::anyhow;
+use crate::lines::{Unread, unescaped};
+use crate::stop::Stop;
 use record::writer::{Pair, Unwritten, write_record};
-use std::alloc::{AllocError, Global};
+use std::alloc::Global;
 use std::io::Write;
 
 // How a line that begins a record begins; the place after it is passed over.
 const RECORD_AT: &str = "record at ";
+
+const FORM: &str = "'record at PLACE', and no 'name=value' in a record";
 
 // A name and a value of the record that is being read.
 #[derive(Drop)]
@@ -17,81 +18,56 @@ struct OwnedPair {
     value: Vec<u8>,
 }
 
+impl OwnedPair {
+    // Reads a line `name=value`.
+    fn parse(heap: Global, line: &str) -> Result<OwnedPair, Unread> {
+        let (name, value) = line.split_once('=').ok_or(Unread::Malformed)?;
+        let name = unescaped(heap, name)?;
+        let value = unescaped(heap, value)?;
+        Ok(OwnedPair { name, value })
+    }
+}
+
+impl<'a> From<&'a OwnedPair> for Pair<'a> {
+    fn from(pair: &'a OwnedPair) -> Pair<'a> {
+        Pair {
+            name: pair.name.as_slice(),
+            value: pair.value.as_slice(),
+        }
+    }
+}
+
 // Reads the lines of a file and writes their records to standard output.
-pub fn pack(rt: &HostRuntime, path: &str) -> anyhow::Result<Outcome> {
-    let Some(bytes) = read_whole(rt, path)? else {
-        return Ok(Outcome::Refused);
-    };
-    let Ok(text) = std::str::from_utf8(bytes.as_slice()) else {
-        eprintln!(rt; "{path} is no text")?;
-        return Ok(Outcome::Refused);
-    };
-    let mut file = Vec::new(rt.alloc());
-    let mut lines = Vec::new(rt.alloc());
-    let mut begun = false;
-    for (before, line) in text.lines().enumerate() {
+pub fn pack<'a>(rt: &HostRuntime, path: &'a str) -> Result<(), Stop<'a>> {
+    let bytes = read_whole(rt, path)?;
+    let text = std::str::from_utf8(bytes.as_slice()).map_err(|_| Stop::NoText(path))?;
+    let file = packed(rt.alloc(), text)?;
+    rt.stdout().write_all(file.as_slice())?;
+    Ok(())
+}
+
+// The record file of a text.
+fn packed(heap: Global, text: &str) -> Result<Vec<u8>, Stop<'static>> {
+    let mut file = Vec::new(heap);
+    let mut begun: Option<Vec<OwnedPair>> = None;
+    for (number, line) in (1usize..).zip(text.lines()) {
         if line.starts_with(RECORD_AT) {
-            if begun && !close(rt, &mut file, &mut lines)? {
-                return Ok(Outcome::Refused);
+            if let Some(pairs) = begun.replace(Vec::new(heap)) {
+                add_record(&mut file, pairs.as_slice())?;
             }
-            begun = true;
             continue;
         }
-        match parse(rt.alloc(), line)? {
-            Some(pair) if begun => lines.push(pair)?,
-            _ => {
-                let number = before.saturating_add(1);
-                eprintln!(rt;
-                    "line {number} is no 'record at PLACE', and no 'name=value' in a record"
-                )?;
-                return Ok(Outcome::Refused);
-            }
-        }
+        let pair = OwnedPair::parse(heap, line).map_err(|unread| unread.at(number, FORM))?;
+        let pairs = begun.as_mut().ok_or(Stop::BadLine(number, FORM))?;
+        pairs.push(pair)?;
     }
-    if begun && !close(rt, &mut file, &mut lines)? {
-        return Ok(Outcome::Refused);
+    if let Some(pairs) = begun {
+        add_record(&mut file, pairs.as_slice())?;
     }
-    rt.stdout().write_all(file.as_slice())?;
-    Ok(Outcome::Done)
+    Ok(file)
 }
 
-// The name and the value of a line `name=value`.
-fn parse(heap: Global, line: &str) -> Result<Option<OwnedPair>, AllocError> {
-    let Some((name, value)) = line.split_once('=') else {
-        return Ok(None);
-    };
-    let name = unescaped(heap, name.as_bytes())?;
-    let value = unescaped(heap, value.as_bytes())?;
-    match (name, value) {
-        (Some(name), Some(value)) => Ok(Some(OwnedPair { name, value })),
-        _ => Ok(None),
-    }
-}
-
-// Ends the record: adds it to the file and forgets its lines. False where it is refused, and the reason is printed.
-fn close(rt: &HostRuntime, file: &mut Vec<u8>, lines: &mut Vec<OwnedPair>) -> anyhow::Result<bool> {
-    let written = write_lines(rt.alloc(), file, lines.as_slice());
-    lines.clear();
-    match written {
-        Ok(()) => Ok(true),
-        Err(Unwritten::Refused(fault)) => {
-            eprintln!(rt; "refused {fault}")?;
-            Ok(false)
-        }
-        Err(Unwritten::NoMemory) => Err(anyhow!("no memory for the record")),
-    }
-}
-
-fn write_lines(heap: Global, file: &mut Vec<u8>, lines: &[OwnedPair]) -> Result<(), Unwritten> {
-    let mut pairs = Vec::new(heap);
-    for line in lines {
-        let pair = Pair {
-            name: line.name.as_slice(),
-            value: line.value.as_slice(),
-        };
-        if pairs.push(pair).is_err() {
-            return Err(Unwritten::NoMemory);
-        }
-    }
+fn add_record(file: &mut Vec<u8>, pairs: &[OwnedPair]) -> Result<(), Unwritten> {
+    let pairs: Vec<Pair<'_>> = pairs.iter().map(Pair::from).collect(*file.allocator())?;
     write_record(file, pairs.as_slice())
 }

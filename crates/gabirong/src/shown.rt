@@ -1,100 +1,101 @@
-// Bytes as they are shown to people.
-ghost use Rattle.std.specs.Prelude.{◌<◌, IfSome};
-
-use std::alloc::{AllocError, Global};
+// Bytes and counts as they are shown to people.
 use std::fmt;
 
-fn is_printable(byte: u8) -> bool {
-    byte >= b' ' && byte <= b'~'
-}
+// Which bytes are shown as themselves, every other as \xHH; and what stands before and after them all.
+pub trait Style {
+    const EDGE: &'static str;
 
-fn show_byte<W: fmt::Write>(byte: u8, plain: bool, f: &mut fmt::Formatter<W>) -> fmt::Result {
-    if plain {
-        f.write_char(byte as char)
-    } else {
-        write!(f, "\\x{byte:02x}")
+    fn is_plain(byte: u8) -> bool;
+
+    final fn show<W: fmt::Write>(byte: u8, f: &mut fmt::Formatter<W>) -> fmt::Result {
+        if Self::is_plain(byte) {
+            f.write_char(char::from(byte))
+        } else {
+            write!(f, "\\x{byte:02x}")
+        }
     }
 }
 
-// A line of a file: printable ASCII as itself, and every other byte as \xHH.
+// A line of a file: printable ASCII is plain.
 #[derive(Clone, Copy)]
-pub struct Line<'a>(pub &'a [u8]);
+pub struct Line;
 
-impl fmt::Display for Line<'_> {
-    fn fmt<W: fmt::Write>(&self, f: &mut fmt::Formatter<W>) -> fmt::Result {
-        for byte in self.0 {
-            show_byte(*byte, is_printable(*byte), f)?;
-        }
-        Ok(())
+impl Style for Line {
+    const EDGE: &'static str = "";
+
+    fn is_plain(byte: u8) -> bool {
+        matches!(byte, b' '..=b'~')
     }
 }
 
-// How many characters a byte of a line is shown as.
-pub fn width(byte: u8) -> usize {
-    if is_printable(byte) { 1 } else { 4 }
-}
-
-// Bytes between double quotes, where the double quote and the backslash are shown as \xHH too.
+// On a line of their own, with the backslash not plain, so that they can be read back.
 #[derive(Clone, Copy)]
-pub struct Quoted<'a>(pub &'a [u8]);
+pub struct Escaped;
 
-impl fmt::Display for Quoted<'_> {
-    fn fmt<W: fmt::Write>(&self, f: &mut fmt::Formatter<W>) -> fmt::Result {
-        write!(f, "\"")?;
-        for byte in self.0 {
-            show_quoted(*byte, f)?;
-        }
-        write!(f, "\"")
+impl Style for Escaped {
+    const EDGE: &'static str = "";
+
+    fn is_plain(byte: u8) -> bool {
+        Line::is_plain(byte) && byte != b'\\'
     }
 }
 
-pub fn show_quoted<W: fmt::Write>(byte: u8, f: &mut fmt::Formatter<W>) -> fmt::Result {
-    show_byte(byte, is_printable(byte) && byte != b'"' && byte != b'\\', f)
-}
-
-// Bytes on a line of their own, where the backslash is shown as \xHH too, so that they can be read back.
+// The same between double quotes, with the double quote not plain.
 #[derive(Clone, Copy)]
-pub struct Escaped<'a>(pub &'a [u8]);
+pub struct Quoted;
 
-impl fmt::Display for Escaped<'_> {
+impl Style for Quoted {
+    const EDGE: &'static str = "\"";
+
+    fn is_plain(byte: u8) -> bool {
+        Escaped::is_plain(byte) && byte != b'"'
+    }
+}
+
+// Bytes in a style.
+#[derive(Clone, Copy)]
+pub struct Shown<'a, S>(pub &'a [u8], pub S);
+
+impl<S: Style> fmt::Display for Shown<'_, S> {
     fn fmt<W: fmt::Write>(&self, f: &mut fmt::Formatter<W>) -> fmt::Result {
+        f.write_str(S::EDGE)?;
         for byte in self.0 {
-            show_byte(*byte, is_printable(*byte) && *byte != b'\\', f)?;
+            S::show(*byte, f)?;
         }
-        Ok(())
+        f.write_str(S::EDGE)
     }
 }
 
-// The bytes that were escaped so; none where a backslash is not followed by x and two hexadecimal digits.
-pub fn unescaped(heap: Global, text: &[u8]) -> Result<Option<Vec<u8>>, AllocError> {
-    let mut bytes = Vec::new(heap);
-    let mut rest = text;
-    loop {
-        match rest {
-            [] => return Ok(Some(bytes)),
-            [b'\\', b'x', high, low, after @ ..] => {
-                let (Some(high), Some(low)) = (hex_digit(*high), hex_digit(*low)) else {
-                    return Ok(None);
-                };
-                bytes.push(high * 16 + low)?;
-                rest = after;
-            }
-            [b'\\', ..] => return Ok(None),
-            [byte, after @ ..] => {
-                bytes.push(*byte)?;
-                rest = after;
-            }
+// The line of a text that has a place, with a caret under the place.
+#[derive(Clone, Copy)]
+pub struct LineAt<'a>(pub &'a [u8], pub usize);
+
+impl fmt::Display for LineAt<'_> {
+    fn fmt<W: fmt::Write>(&self, f: &mut fmt::Formatter<W>) -> fmt::Result {
+        let LineAt(text, place) = *self;
+        let (before, after) = text.split_at(place.min(text.len()));
+        let before = before.rsplit(is_line_feed).next().unwrap_or(before);
+        let after = after.split(is_line_feed).next().unwrap_or(after);
+        writeln!(f, "{}{}", Shown(before, Line), Shown(after, Line))?;
+        for byte in before {
+            f.write_str(if Line::is_plain(*byte) { " " } else { "    " })?;
         }
+        f.write_char('^')
     }
 }
 
-fn hex_digit(byte: u8) -> Option<u8>
-    ensures { IfSome result (λ digit. digit < 16) }
-{
-    match byte {
-        b'0'..=b'9' => Some(byte - b'0'),
-        b'a'..=b'f' => Some(byte - b'a' + 10),
-        b'A'..=b'F' => Some(byte - b'A' + 10),
-        _ => None,
+fn is_line_feed(byte: &u8) -> bool {
+    *byte == b'\n'
+}
+
+// How many things there are, as `1 hole` or `2 holes`.
+#[derive(Clone, Copy)]
+pub struct Count(pub usize, pub &'static str);
+
+impl fmt::Display for Count {
+    fn fmt<W: fmt::Write>(&self, f: &mut fmt::Formatter<W>) -> fmt::Result {
+        let Count(count, thing) = *self;
+        let s = if count == 1 { "" } else { "s" };
+        write!(f, "{count} {thing}{s}")
     }
 }

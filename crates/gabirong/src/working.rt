@@ -1,17 +1,24 @@
 // The command `work`: a list of lines that fill a template.
-use crate::Outcome;
 use crate::input::read_both;
-use crate::merging::{MAX_TEXT, write_text};
-use crate::refusal::refuse;
-use crate::shown::unescaped;
+use crate::lines::{Unread, unescaped};
+use crate::shown::Count;
+use crate::stop::Stop;
 use anyhow::anyhow;
+use fault::Fault;
 use host::Host;
 use printer::sheet::Sheet;
-use std::alloc::{AllocError, Global};
+use std::alloc::Global;
+use std::fmt;
+use std::io::Write;
 use template::raw::Raw;
 use worklist::line::{Answer, Line};
-use worklist::outcome::{Unworked, Worked};
+use worklist::outcome::Unworked;
 use worklist::work::work;
+
+// The most bytes that a text has.
+pub const MAX_TEXT: usize = 65_280;
+
+const FORM: &str = "'bind K VALUE', 'release K' or 'owed'";
 
 // A line of a list as it is read, with a value of its own.
 #[derive(Drop)]
@@ -21,155 +28,156 @@ enum OwnedLine {
     Owed,
 }
 
-// Goes down the lines of a file, and prints the answer of each, then the text.
-pub fn work_through<H: Host>(
-    rt: &HostRuntime,
-    sheet: &mut Sheet<H>,
-    template: &str,
-    list: &str,
-) -> anyhow::Result<Outcome> {
-    let Some((template, list)) = read_both(rt, template, list)? else {
-        return Ok(Outcome::Refused);
-    };
-    let Some(owned) = parse_list(rt, list.as_slice())? else {
-        return Ok(Outcome::Refused);
-    };
-    let mut lines = Vec::new(rt.alloc());
-    for line in owned.as_slice() {
-        lines.push(borrowed(line))?;
+impl OwnedLine {
+    fn parse(heap: Global, line: &str) -> Result<OwnedLine, Unread> {
+        if line == "owed" {
+            return Ok(OwnedLine::Owed);
+        }
+        match line.split_once(' ').ok_or(Unread::Malformed)? {
+            ("release", hole) => {
+                let hole = hole.parse::<usize>()?;
+                Ok(OwnedLine::Release { hole })
+            }
+            // The value goes up to the end of the line, and may be empty.
+            ("bind", rest) => {
+                let (hole, value) = rest.split_once(' ').unwrap_or((rest, ""));
+                let hole = hole.parse::<usize>()?;
+                let value = unescaped(heap, value)?;
+                Ok(OwnedLine::Bind { hole, value })
+            }
+            _ => Err(Unread::Malformed),
+        }
     }
-    let mut answers = Vec::new(rt.alloc());
-    let mut out = vec![in rt.alloc(); 0; MAX_TEXT]?;
+}
+
+impl<'v> From<&'v OwnedLine> for Line<'v> {
+    fn from(line: &'v OwnedLine) -> Line<'v> {
+        match line {
+            OwnedLine::Bind { hole, value } => Line::Bind {
+                hole: *hole,
+                value: value.as_slice(),
+            },
+            OwnedLine::Release { hole } => Line::Release { hole: *hole },
+            OwnedLine::Owed => Line::Owed,
+        }
+    }
+}
+
+// What came of a list: the answers of its lines, the number of holes that the finish told, and the text.
+#[derive(Drop)]
+pub struct Done {
+    pub answers: Vec<Answer>,
+    pub finish: Result<usize, Fault>,
+    pub text: Result<Vec<u8>, Fault>,
+}
+
+// An answer as words.
+#[derive(Clone, Copy)]
+pub struct Told<'a>(pub &'a Answer);
+
+impl fmt::Display for Told<'_> {
+    fn fmt<W: fmt::Write>(&self, f: &mut fmt::Formatter<W>) -> fmt::Result {
+        match self.0 {
+            Answer::Taken => write!(f, "taken"),
+            Answer::Refused(fault) => write!(f, "refused {fault}"),
+            Answer::Owed {
+                count,
+                lowest: Some(lowest),
+            } => write!(f, "owed {count} lowest {lowest}"),
+            Answer::Owed {
+                count,
+                lowest: None,
+            } => write!(f, "owed {count}"),
+        }
+    }
+}
+
+// Goes down the lines of a file, and prints the answer of each, then the text.
+pub fn work_through<'a, H: Host + Drop>(
+    rt: &HostRuntime,
+    host: H,
+    template: &'a str,
+    list: &'a str,
+) -> Result<(), Stop<'a>> {
+    let (template, list) = read_both(rt, template, list)?;
+    let lines = parse_list(rt.alloc(), list.as_slice())?;
+    let lines: Vec<Line<'_>> = lines.iter().map(Line::from).collect(rt.alloc())?;
+    let done = go_down(rt.alloc(), host, template, lines.as_slice())?;
+    for answer in done.answers.as_slice() {
+        println!(rt; "{}", Told(answer))?;
+    }
+    tell_end(rt, done)
+}
+
+// The lines of a list.
+fn parse_list(heap: Global, list: &[u8]) -> Result<Vec<OwnedLine>, Stop<'static>> {
+    let text = std::str::from_utf8(list).map_err(|_| Stop::NoText("the list"))?;
+    (1usize..)
+        .zip(text.lines())
+        .map(|(number, line)| OwnedLine::parse(heap, line).map_err(|unread| unread.at(
+            number, FORM,
+        )))
+        .try_collect(heap)
+}
+
+// Goes down the lines on a sheet of their own.
+pub fn go_down<H: Host + Drop>(
+    heap: Global,
+    host: H,
+    template: Vec<u8>,
+    lines: &[Line<'_>],
+) -> Result<Done, Stop<'static>> {
+    let mut answers = Vec::new(heap);
+    let mut out = vec![in heap; 0; MAX_TEXT]?;
     let worked = work(
         Raw::new(template.as_slice()),
-        sheet,
-        lines.as_slice(),
+        &mut Sheet::new(host),
+        lines,
         &mut answers,
         out.as_mut_slice(),
     );
     match worked {
         Ok(worked) => {
-            for answer in answers.as_slice() {
-                tell_answer(rt, answer)?;
-            }
-            tell_end(rt, worked, out.as_slice())
+            // Where there is no print, the finish is refused.
+            let text = match worked.print.unwrap_or(worked.finish) {
+                Ok(len) => {
+                    out.truncate(len);
+                    Ok(out)
+                }
+                Err(fault) => Err(fault),
+            };
+            Ok(Done {
+                answers,
+                finish: worked.finish,
+                text,
+            })
         }
-        Err(unworked) => refuse_list(rt, unworked, template.as_slice()),
+        Err(Unworked::Refused(fault)) => Err(Stop::TextRefused(fault, template)),
+        Err(Unworked::NoMemory) => Err(Stop::Failed(anyhow!("no memory for the answers"))),
     }
-}
-
-fn borrowed<'v>(line: &'v OwnedLine) -> Line<'v> {
-    match line {
-        OwnedLine::Bind { hole, value } => Line::Bind {
-            hole: *hole,
-            value: value.as_slice(),
-        },
-        OwnedLine::Release { hole } => Line::Release { hole: *hole },
-        OwnedLine::Owed => Line::Owed,
-    }
-}
-
-// The lines of a list; none where one cannot be read, and its number is printed.
-fn parse_list(rt: &HostRuntime, list: &[u8]) -> anyhow::Result<Option<Vec<OwnedLine>>> {
-    let Ok(text) = std::str::from_utf8(list) else {
-        eprintln!(rt; "the list is no text")?;
-        return Ok(None);
-    };
-    let mut lines = Vec::new(rt.alloc());
-    for (before, line) in text.lines().enumerate() {
-        match parse_line(rt.alloc(), line)? {
-            Some(line) => lines.push(line)?,
-            None => {
-                let number = before.saturating_add(1);
-                eprintln!(rt; "line {number} is no 'bind K VALUE', 'release K' or 'owed'")?;
-                return Ok(None);
-            }
-        }
-    }
-    Ok(Some(lines))
-}
-
-fn parse_line(heap: Global, line: &str) -> Result<Option<OwnedLine>, AllocError> {
-    if line == "owed" {
-        return Ok(Some(OwnedLine::Owed));
-    }
-    let Some((word, rest)) = line.split_once(' ') else {
-        return Ok(None);
-    };
-    match word {
-        "release" => match rest.parse::<usize>() {
-            Ok(hole) => Ok(Some(OwnedLine::Release { hole })),
-            Err(_) => Ok(None),
-        },
-        "bind" => parse_bind(heap, rest),
-        _ => Ok(None),
-    }
-}
-
-// A hole number, and a value up to the end of the line, which may be empty.
-fn parse_bind(heap: Global, rest: &str) -> Result<Option<OwnedLine>, AllocError> {
-    let (number, value) = rest.split_once(' ').unwrap_or((rest, ""));
-    let Ok(hole) = number.parse::<usize>() else {
-        return Ok(None);
-    };
-    match unescaped(heap, value.as_bytes())? {
-        Some(value) => Ok(Some(OwnedLine::Bind { hole, value })),
-        None => Ok(None),
-    }
-}
-
-// One answer as words.
-pub fn tell_answer(rt: &HostRuntime, answer: &Answer) -> anyhow::Result<()> {
-    match answer {
-        Answer::Taken => println!(rt; "taken")?,
-        Answer::Refused(fault) => println!(rt; "refused {fault}")?,
-        Answer::Owed {
-            count,
-            lowest: Some(lowest),
-        } => println!(rt; "owed {count} lowest {lowest}")?,
-        Answer::Owed {
-            count,
-            lowest: None,
-        } => println!(rt; "owed {count}")?,
-    }
-    Ok(())
 }
 
 // What finish and print said, and the text.
-pub fn tell_end(rt: &HostRuntime, worked: Worked, out: &[u8]) -> anyhow::Result<Outcome> {
-    match worked.finish {
-        Ok(holes) => {
-            let s = if holes == 1 { "" } else { "s" };
-            println!(rt; "finish: {holes} hole{s}")?;
-        }
-        Err(fault) => {
-            println!(rt; "finish: refused")?;
-            eprintln!(rt; "refused {fault}")?;
-        }
-    }
-    match worked.print {
-        Some(Ok(len)) => {
-            println!(rt; "print: {len} bytes")?;
-            write_text(rt, out, len)?;
-            Ok(Outcome::Done)
-        }
-        Some(Err(fault)) => {
-            println!(rt; "print: refused")?;
-            eprintln!(rt; "refused {fault}")?;
-            Ok(Outcome::Refused)
-        }
-        None => Ok(Outcome::Refused),
-    }
+pub fn tell_end(rt: &HostRuntime, done: Done) -> Result<(), Stop<'static>> {
+    let holes = taken(rt, "finish", done.finish)?;
+    println!(rt; "finish: {}", Count(holes, "hole"))?;
+    let text = taken(rt, "print", done.text)?;
+    println!(rt; "print: {} bytes", text.len())?;
+    rt.stdout().write_all(text.as_slice())?;
+    Ok(())
 }
 
-// Why no line was done.
-pub fn refuse_list(
+// What a step came to; a line says that it is refused.
+fn taken<T: Drop>(
     rt: &HostRuntime,
-    unworked: Unworked,
-    template: &[u8],
-) -> anyhow::Result<Outcome> {
-    match unworked {
-        Unworked::Refused(fault) => refuse(rt, fault, template),
-        Unworked::NoMemory => Err(anyhow!("no memory for the answers")),
+    step: &str,
+    told: Result<T, Fault>,
+) -> Result<T, Stop<'static>> {
+    match told {
+        Ok(value) => Ok(value),
+        Err(fault) => {
+            println!(rt; "{step}: refused")?;
+            Err(Stop::Refused(fault))
+        }
     }
 }

@@ -1,0 +1,65 @@
+// Lines that are read.
+ghost use Rattle.std.specs.Prelude.{◌<◌, IfOk};
+
+use crate::stop::Stop;
+use std::alloc::{AllocError, AllocFailed, Global};
+use std::num::ParseIntError;
+
+// Why a line is not read.
+#[derive(Clone, Copy)]
+pub enum Unread {
+    Malformed,
+    NoMemory,
+}
+
+impl Unread {
+    // The same of the line of this number, which is to have this form.
+    pub fn at(self, number: usize, form: &'static str) -> Stop<'static> {
+        match self {
+            Unread::Malformed => Stop::BadLine(number, form),
+            Unread::NoMemory => Stop::from(AllocError),
+        }
+    }
+}
+
+impl From<ParseIntError> for Unread {
+    fn from(_: ParseIntError) -> Unread {
+        Unread::Malformed
+    }
+}
+
+impl From<AllocError> for Unread {
+    fn from(_: AllocError) -> Unread {
+        Unread::NoMemory
+    }
+}
+
+impl<T: Drop> From<AllocFailed<T>> for Unread {
+    fn from(_: AllocFailed<T>) -> Unread {
+        Unread::NoMemory
+    }
+}
+
+// The bytes that the style `Escaped` shows so: after a backslash come x and two hexadecimal digits.
+pub fn unescaped(heap: Global, text: &str) -> Result<Vec<u8>, Unread> {
+    let mut parts = text.split('\\');
+    let mut bytes = Vec::new(heap);
+    if let Some(part) = parts.next() {
+        bytes.extend_from_slice(part.as_bytes())?;
+    }
+    for part in parts {
+        let [b'x', high, low, rest @ ..] = part.as_bytes() else {
+            return Err(Unread::Malformed);
+        };
+        bytes.push(digit(*high)? * 16 + digit(*low)?)?;
+        bytes.extend_from_slice(rest)?;
+    }
+    Ok(bytes)
+}
+
+fn digit(byte: u8) -> Result<u8, Unread>
+    ensures { IfOk result (λ digit. digit < 16) }
+{
+    let digit = char::from(byte).to_digit(16).ok_or(Unread::Malformed)?;
+    Ok(digit as u8)
+}

@@ -1,0 +1,109 @@
+// Why a command is not done, as standard error tells it.
+use crate::input::Unreadable;
+use crate::shown::{Line, LineAt, Shown};
+use anyhow::anyhow;
+use fault::Fault;
+use outline::Untold;
+use record::writer::Unwritten;
+use std::alloc::{AllocError, AllocFailed};
+use std::{fmt, io};
+
+const USAGE: &str = "usage: gabirong check HOST TEMPLATE-FILE
+       gabirong fill [-q] HOST TEMPLATE-FILE NAME=VALUE..
+       gabirong merge [--at PLACE] HOST TEMPLATE-FILE RECORD-FILE
+       gabirong work HOST TEMPLATE-FILE LIST-FILE
+       gabirong list [--raw] HOST TEXT-FILE
+       gabirong records RECORD-FILE
+       gabirong pack [LINES-FILE]
+HOST is shell, sql or csv; a file that is - is standard input";
+
+#[derive(Drop)]
+pub enum Stop<'a> {
+    // The command line gives no job.
+    Usage,
+    Unreadable(Unreadable<'a>),
+    BothUnreadable(Unreadable<'a>, Unreadable<'a>),
+    // Two files are to be standard input.
+    InputTwice,
+    // What is no text.
+    NoText(&'a str),
+    // The number of a line, from 1, and what it is none of.
+    BadLine(usize, &'static str),
+    // The number of a pair, from 1, that has no equals sign.
+    NoPair(usize),
+    // A name that two pairs have; and one that no hole has.
+    GivenTwice(&'a str),
+    NoHoleNamed(&'a str),
+    // A refusal by itself, one of a text, and one of the record at a place.
+    Refused(Fault),
+    TextRefused(Fault, Vec<u8>),
+    RecordRefused(Fault, usize),
+    Failed(anyhow::Error),
+}
+
+impl fmt::Display for Stop<'_> {
+    fn fmt<W: fmt::Write>(&self, f: &mut fmt::Formatter<W>) -> fmt::Result {
+        match self {
+            Stop::Usage => f.write_str(USAGE),
+            Stop::Unreadable(file) => write!(f, "{file}"),
+            Stop::BothUnreadable(first, second) => write!(f, "{first}\n{second}"),
+            Stop::InputTwice => write!(f, "only one of the files can be standard input"),
+            Stop::NoText(name) => write!(f, "{name} is no text"),
+            Stop::BadLine(number, form) => write!(f, "line {number} is no {form}"),
+            Stop::NoPair(number) => write!(f, "pair {number} is no NAME=VALUE"),
+            Stop::GivenTwice(name) => write!(f, "{} is given twice", Shown(name.as_bytes(), Line)),
+            Stop::NoHoleNamed(name) => write!(
+                f,
+                "no hole is named {}",
+                Shown(name.as_bytes(), Line)
+            ),
+            Stop::Refused(fault) => write!(f, "refused {fault}"),
+            Stop::TextRefused(fault, text) => {
+                let line = LineAt(text.as_slice(), fault.place());
+                write!(f, "refused {fault}\n{line}")
+            }
+            Stop::RecordRefused(fault, place) => write!(f, "refused {fault}\nrecord at {place}"),
+            Stop::Failed(error) => write!(f, "gabirong: {error}"),
+        }
+    }
+}
+
+impl From<io::Error> for Stop<'_> {
+    fn from(error: io::Error) -> Self {
+        Stop::Failed(anyhow::Error::from(error))
+    }
+}
+
+impl From<AllocError> for Stop<'_> {
+    fn from(error: AllocError) -> Self {
+        Stop::Failed(anyhow::Error::from(error))
+    }
+}
+
+impl<T: Drop> From<AllocFailed<T>> for Stop<'_> {
+    fn from(error: AllocFailed<T>) -> Self {
+        Stop::from(AllocError::from(error))
+    }
+}
+
+impl From<Fault> for Stop<'_> {
+    fn from(fault: Fault) -> Self {
+        Stop::Refused(fault)
+    }
+}
+
+// A template that is checked has an outline, but for want of memory.
+impl From<Untold> for Stop<'_> {
+    fn from(_: Untold) -> Self {
+        Stop::Failed(anyhow!("no memory for the outline"))
+    }
+}
+
+impl From<Unwritten> for Stop<'_> {
+    fn from(unwritten: Unwritten) -> Self {
+        match unwritten {
+            Unwritten::Refused(fault) => Stop::Refused(fault),
+            Unwritten::NoMemory => Stop::Failed(anyhow!("no memory for the record")),
+        }
+    }
+}
