@@ -1,6 +1,6 @@
 // The command `check`: whether a host takes a template, and how it reads it.
 use crate::input::read_whole;
-use crate::kinds::KindNames;
+use crate::kinds::{KindName, Kinds};
 use crate::shown::{Count, Line, Quoted, Shown, Style};
 use crate::stop::Stop;
 use host::Host;
@@ -12,7 +12,7 @@ use template::item::{Hole, Item};
 use template::raw::Raw;
 
 // Prints each action, and how the template is read.
-pub fn check_template<'a, H: Host + KindNames>(
+pub fn check_template<'a, H: Kinds>(
     rt: &HostRuntime,
     host: &H,
     path: &'a str,
@@ -28,7 +28,7 @@ pub fn check_template<'a, H: Host + KindNames>(
     tell_items(rt, template, visits.as_slice())?;
     println!(rt; "holes, each with its number, name, place and body:")?;
     if let Ok(survey) = survey(template, host) {
-        tell_holes(rt, holes.as_slice(), &survey.bodies)?;
+        tell_holes(rt, holes.as_slice(), survey.bodies())?;
     }
     println!(rt; "plan, the tokens that the text will read as:")?;
     tell_plan(rt, host, tokens.as_slice(), holes.as_slice())?;
@@ -115,7 +115,7 @@ fn tell_holes(rt: &HostRuntime, holes: &[Hole<'_>], bodies: &[u8]) -> io::Result
     Ok(())
 }
 
-fn tell_plan<'x, H: KindNames>(
+fn tell_plan<'x, H: Kinds>(
     rt: &HostRuntime,
     host: &H,
     tokens: &'x [Token],
@@ -123,7 +123,7 @@ fn tell_plan<'x, H: KindNames>(
 ) -> io::Result<()> {
     for (number, token) in tokens.iter().enumerate() {
         let kind = token.kind;
-        let name = host.kind_name(kind);
+        let name = KindName::<H::Kind>::of(kind);
         let value = Value {
             symbols: token.value.as_slice(),
             holes,

@@ -3,7 +3,7 @@ ghost use Rattle.std.specs.Prelude.{length};
 ghost use Rattle.std.specs.Iterator.{at_most};
 
 use crate::input::read_whole;
-use crate::kinds::KindNames;
+use crate::kinds::{KindName, Kinds};
 use crate::shown::{Count, Quoted, Shown};
 use crate::stop::Stop;
 use fault::Fault;
@@ -13,16 +13,12 @@ use std::alloc::Global;
 use std::io::Write;
 
 // Prints a line for each token.
-pub fn list_text<'a, H: Host + KindNames>(
-    rt: &HostRuntime,
-    host: &H,
-    path: &'a str,
-) -> Result<(), Stop<'a>> {
+pub fn list_text<'a, H: Kinds>(rt: &HostRuntime, host: &H, path: &'a str) -> Result<(), Stop<'a>> {
     let text = read_whole(rt, path)?;
     println!(rt; "read {path}: {} bytes", text.len())?;
     let listing = listing_of(rt.alloc(), host, text)?;
     for (number, (kind, value)) in Fields(listing.as_slice()).enumerate() {
-        let name = host.kind_name(kind);
+        let name = KindName::<H::Kind>::of(kind);
         println!(rt;
             "token {number} kind {kind} {name} {}",
             Shown(value, Quoted)

@@ -20,7 +20,7 @@ use command::{Action, HostName, Job};
 use csv_host::Csv;
 use filling::{fill_quietly, fill_template};
 use host::Host;
-use kinds::KindNames;
+use kinds::Kinds;
 use listing::{list_raw, list_text};
 use merging::{merge_all, merge_one};
 use pack::pack;
@@ -45,7 +45,7 @@ fn run<'a>(rt: &HostRuntime, words: &'a [String]) -> Result<(), Stop<'a>> {
     }
 }
 
-fn perform<'a, H: Host + KindNames + Drop>(
+fn perform<'a, H: Kinds + Drop>(
     rt: &HostRuntime,
     host: H,
     action: Action<'a>,

@@ -2,7 +2,8 @@
 use crate::input::read_whole;
 use crate::lines::{Unread, unescaped};
 use crate::stop::Stop;
-use record::writer::{Pair, Unwritten, write_record};
+use fault::{Failure, Fault};
+use record::writer::{Pair, write_record};
 use std::alloc::Global;
 use std::io::Write;
 
@@ -67,7 +68,7 @@ fn packed(heap: Global, text: &str) -> Result<Vec<u8>, Stop<'static>> {
     Ok(file)
 }
 
-fn add_record(file: &mut Vec<u8>, pairs: &[OwnedPair]) -> Result<(), Unwritten> {
+fn add_record(file: &mut Vec<u8>, pairs: &[OwnedPair]) -> Result<(), Failure<Fault>> {
     let pairs: Vec<Pair<'_>> = pairs.iter().map(Pair::from).collect(*file.allocator())?;
     write_record(file, pairs.as_slice())
 }

@@ -2,9 +2,7 @@
 use crate::input::Unreadable;
 use crate::shown::{Line, LineAt, Shown};
 use anyhow::anyhow;
-use fault::Fault;
-use outline::Untold;
-use record::writer::Unwritten;
+use fault::{Failure, Fault, Flaw};
 use std::alloc::{AllocError, AllocFailed};
 use std::{fmt, io};
 
@@ -93,17 +91,18 @@ impl From<Fault> for Stop<'_> {
 }
 
 // A template that is checked has an outline, but for want of memory.
-impl From<Untold> for Stop<'_> {
-    fn from(_: Untold) -> Self {
+impl From<Failure<Flaw>> for Stop<'_> {
+    fn from(_: Failure<Flaw>) -> Self {
         Stop::Failed(anyhow!("no memory for the outline"))
     }
 }
 
-impl From<Unwritten> for Stop<'_> {
-    fn from(unwritten: Unwritten) -> Self {
-        match unwritten {
-            Unwritten::Refused(fault) => Stop::Refused(fault),
-            Unwritten::NoMemory => Stop::Failed(anyhow!("no memory for the record")),
+// A record that is not written.
+impl From<Failure<Fault>> for Stop<'_> {
+    fn from(failure: Failure<Fault>) -> Self {
+        match failure {
+            Failure::Refused(fault) => Stop::Refused(fault),
+            Failure::NoMemory => Stop::Failed(anyhow!("no memory for the record")),
         }
     }
 }

@@ -4,7 +4,7 @@ use crate::lines::{Unread, unescaped};
 use crate::shown::Count;
 use crate::stop::Stop;
 use anyhow::anyhow;
-use fault::Fault;
+use fault::{Failure, Fault};
 use host::Host;
 use printer::sheet::Sheet;
 use std::alloc::Global;
@@ -12,7 +12,6 @@ use std::fmt;
 use std::io::Write;
 use template::raw::Raw;
 use worklist::line::{Answer, Line};
-use worklist::outcome::Unworked;
 use worklist::work::work;
 
 // The most bytes that a text has.
@@ -152,8 +151,8 @@ pub fn go_down<H: Host + Drop>(
                 text,
             })
         }
-        Err(Unworked::Refused(fault)) => Err(Stop::TextRefused(fault, template)),
-        Err(Unworked::NoMemory) => Err(Stop::Failed(anyhow!("no memory for the answers"))),
+        Err(Failure::Refused(fault)) => Err(Stop::TextRefused(fault, template)),
+        Err(Failure::NoMemory) => Err(Stop::Failed(anyhow!("no memory for the answers"))),
     }
 }
 
