@@ -63,7 +63,7 @@ fn tell_items(
     visits: &[Visit<'_>],
 ) -> Result<(), Stop<'static>> {
     let in_row = |one: &Visit<'_>, next: &Visit<'_>| {
-        is_plain(template, one) && is_plain(template, next) && one.context == next.context
+        is_unescaped(template, one) && is_unescaped(template, next) && one.context == next.context
     };
     for row in visits.chunk_by(in_row) {
         let [first, ..] = row else {
@@ -78,7 +78,7 @@ fn tell_items(
             )?;
             continue;
         }
-        let word = if is_plain(template, first) {
+        let word = if is_unescaped(template, first) {
             "literal"
         } else {
             "escape"
@@ -93,7 +93,7 @@ fn tell_items(
 }
 
 // Whether an item is a literal that stands in the template as itself.
-fn is_plain(template: &[u8], visit: &Visit<'_>) -> bool {
+fn is_unescaped(template: &[u8], visit: &Visit<'_>) -> bool {
     literal(visit).is_some() && template.get(visit.place) != Some(&b'@')
 }
 

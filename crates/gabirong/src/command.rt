@@ -2,6 +2,15 @@
 use crate::stop::Stop;
 use std::str::FromStr;
 
+pub const USAGE: &str = "usage: gabirong check HOST TEMPLATE-FILE
+       gabirong fill [-q] HOST TEMPLATE-FILE NAME=VALUE..
+       gabirong merge [--at PLACE] HOST TEMPLATE-FILE RECORD-FILE
+       gabirong work HOST TEMPLATE-FILE LIST-FILE
+       gabirong list [--raw] HOST TEXT-FILE
+       gabirong records RECORD-FILE
+       gabirong pack [LINES-FILE]
+HOST is shell, sql or csv; a file that is - is standard input";
+
 #[derive(Clone, Copy)]
 pub enum HostName {
     Shell,

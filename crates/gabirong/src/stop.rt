@@ -1,19 +1,11 @@
 // Why a command is not done, as standard error tells it.
+use crate::command::USAGE;
 use crate::input::Unreadable;
 use crate::shown::{Line, LineAt, Shown};
 use anyhow::anyhow;
 use fault::{Failure, Fault, Flaw};
 use std::alloc::{AllocError, AllocFailed};
 use std::{fmt, io};
-
-const USAGE: &str = "usage: gabirong check HOST TEMPLATE-FILE
-       gabirong fill [-q] HOST TEMPLATE-FILE NAME=VALUE..
-       gabirong merge [--at PLACE] HOST TEMPLATE-FILE RECORD-FILE
-       gabirong work HOST TEMPLATE-FILE LIST-FILE
-       gabirong list [--raw] HOST TEXT-FILE
-       gabirong records RECORD-FILE
-       gabirong pack [LINES-FILE]
-HOST is shell, sql or csv; a file that is - is standard input";
 
 #[derive(Drop)]
 pub enum Stop<'a> {
