@@ -25,9 +25,9 @@ use Rattle.printer.proofs.Laid.{past}
 use Rattle.printer.proofs.Linked.{stored, past_blank, bind_within, length_blank}
 use Rattle.printer.proofs.Writing.{refuses, same_ok}
 use Rattle.merge.specs.declared.merged.Merged.{Merged}
-use Rattle.merge.specs.Answers.{merged_of, measured, weighed, written}
+use Rattle.merge.specs.Answers.{merged_of, weighed, written}
 use Rattle.merge.specs.Law.{named_value, ReadsAsRecord, WhereMerged}
-use Rattle.merge.specs.Merging.{bound_as, bind_named_lem, bind_all, completed, with_pairs, with_record, merged_by, merged}
+use Rattle.merge.specs.Merging.{bind_named_lem, bind_all, completed, with_pairs, with_record, merged_by, merged}
 
 -- the step that an answer came through
 stepped : {A B : Type 0} (x : Result A Refusal) (f : A → Result B Refusal) (y : B) → and_then x f ≡ Ok y → (u : A) × (x ≡ Ok u) × (f u ≡ Ok y)
@@ -51,15 +51,13 @@ record Bound (m : Meaning) (d : Verdict) (st : State) (k : ℕ) (o : Option (Lis
 
 bound_by : (m : Meaning) (d : Verdict) (e : ℕ) (st : State) (k : ℕ) (o : Option (List ℕ)) (st' : State) → bind_named_lem m d e st k o ≡ Ok st' → Bound m d st k o st'
 bound_by m d e st k None st' f = absurd (refuses f)
-bound_by m d e st k (Some v) st' f = go d (judged_by m d st k v) refl f
+bound_by m d e st k (Some v) st' f =
+    let untold : judged_by m d st k v ≡ None = grind arith in
+    record { value = v; there = refl; within = in_range d untold; after_it = grind arith }
   where
     in_range : (d : Verdict) → judged_by m d st k v ≡ None → k < st.holes
     in_range (refused r) q = absurd (nothing (sym q))
     in_range (accepted n bodies) q = bind_within m bodies st.holes _ k v q
-
-    go : (d : Verdict) (j : Option Refusal) → judged_by m d st k v ≡ j → bound_as j (filled st k v) ≡ Ok st' → Bound m d st k (Some v) st'
-    go d None q f = record { value = v; there = refl; within = in_range d q; after_it = sym (same_ok f) }
-    go d (Some r) q f = absurd (refuses f)
 
 -- the pairs have a value of a name
 abbrev Named : List Pair → List ℕ → Type 0
@@ -147,8 +145,6 @@ module _ (m : Meaning) (sound : Sound m) (t input : List ℕ) (place room : ℕ)
       go (Err q) h f g = absurd (refuses (sym f))
       go (Ok None) h f g = absurd (nothing (sym (same_ok f)))
       go (Ok (Some y)) h f g =
-          let told : (x.next, x.len) ≡ measured y = the_same (same_ok f) in
-          let at : y.0 ≡ x.next = sym (ap (λ (p : ℕ × ℕ). p.0) told) in
-          let size : x.len ≡ length y.1 = ap (λ (p : ℕ × ℕ). p.1) told in
-          let front : take x.len new ≡ y.1 = ap (λ (k : ℕ). take k new) size ∙ ap (take (length y.1)) g ∙ take-append_seam y.1 (drop (length y.1) old) in
+          let at : y.0 ≡ x.next = grind arith in
+          let front : take x.len new ≡ y.1 = ap (λ (k : ℕ). take k new) (grind arith) ∙ ap (take (length y.1)) g ∙ take-append_seam y.1 (drop (length y.1) old) in
           subst (λ (u : List ℕ). ReadsAsRecord m t input place x.next u) (sym front) (subst (λ (k : ℕ). ReadsAsRecord m t input place k y.1) at (read_as y.0 y.1 h))

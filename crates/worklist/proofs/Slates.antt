@@ -129,20 +129,16 @@ owed_within (s ∷ ss) zero e = omega arith
 owed_within (s ∷ ss) (suc k) e = suc-le-suc (owed_within ss k e)
 
 -- the lowest owed hole is there just when some hole is owed
-some_mapped : {A B : Type 0} (f : A → B) (o : Option A) → is_some (option_map f o) ≡ is_some o
-some_mapped f None = refl
-some_mapped f (Some x) = refl
-
 lowest_owed : (ss : Slate) → is_some (lowest ss) ≡ true → Owes ss
 lowest_owed [] e = absurd (false≢true e)
 lowest_owed (None ∷ ss) e = (0, omega arith, refl)
-lowest_owed (Some v ∷ ss) e = let r = lowest_owed ss (sym (some_mapped suc (lowest ss)) ∙ e) in (suc r.0, suc-le-suc r.1, r.2)
+lowest_owed (Some v ∷ ss) e = let r = lowest_owed ss (grind arith) in (suc r.0, suc-le-suc r.1, r.2)
 
 owed_lowest : (ss : Slate) (k : ℕ) → k < length ss → owed_at ss k ≡ true → is_some (lowest ss) ≡ true
 owed_lowest [] k h e = absurd (false≢true e)
 owed_lowest (None ∷ ss) k h e = refl
 owed_lowest (Some v ∷ ss) zero h e = absurd (false≢true e)
-owed_lowest (Some v ∷ ss) (suc k) h e = some_mapped suc (lowest ss) ∙ owed_lowest ss k (le_of_suc-le-suc h) e
+owed_lowest (Some v ∷ ss) (suc k) h e = let more = owed_lowest ss k (le_of_suc-le-suc h) e in grind arith
 
 pub finish_owes : (n : ℕ) (ss : Slate) → IsRefused (judge_finish_lem n (lowest ss)) → Owes ss
 finish_owes n ss r = lowest_owed ss (grind arith)

@@ -21,6 +21,7 @@ use template::raw::Raw;
 use template::survey::Survey;
 
 // Does one line.
+// Filling, sheet and survey are no struct: its methods would each have to say that host, template and survey stay.
 fn follow<H: Host>(
     filling: &mut Filling<'_>,
     sheet: &mut Sheet<H>,
@@ -54,6 +55,7 @@ fn follow_all<H: Host>(
     ensures host { sheet.new.host ≡ sheet.old.host }
     ensures template { filling.new.template ≡ filling.old.template }
 {
+    // No map: each answer comes of a call that changes the filling and the sheet.
     for line in lines {
         answers.push_reserved(follow(filling, sheet, survey, *line));
     }
