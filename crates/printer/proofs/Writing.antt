@@ -2,6 +2,8 @@
 use Rattle.std.proofs.Common.{◌≡◌, ℕ, zero, suc, ◌+◌, ◌-◌, ◌<◌, ◌≤◌, List, [], ◌∷◌, ◌++◌, length, get_or, take, drop, min, Some, Ok, Err, Result, sym, refl, ap, ◌∙◌, append_assoc, arith, length-append}
 use Rattle.fault.specs.Refusal.{Refusal}
 use Rattle.printer.specs.Passes.{flawed, and_then, spelt_out, prints, fitting, overlaid, onward, framed}
+use Rattle.template.proofs.Read.{reads_literal, reads_hole}
+use Rattle.printer.proofs.Laid.{value_short}
 use Rattle.printer.proofs.Printed.{prints_hole}
 use Rattle.printer.specs.Printing.{turned, in_room, after, output}
 use Rattle.std.proofs.lemmas.Bool.{le-leb}
@@ -133,3 +135,6 @@ onward_whole n none out new (Ok w) (Ok k) h fits e =
     let long : n ≡ 0 + length w = ap (λ (z : ℕ × List ℕ). z.0) (same_ok h) in
     let le : length w ≤ length out = omega arith in
     ap (λ (z : ℕ × List ℕ). z.1) (same_ok e) ∙ overlaid_start out w le ∙ sym (ap (λ t. output out (in_room t w)) (le-leb (length w) (length out) le))
+
+-- one turn of the walk over a template
+pub ruleset walking = (value_short, reads_literal, reads_hole, onward_literal, onward_hole, onward_none)

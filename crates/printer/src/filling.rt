@@ -54,6 +54,7 @@ impl<'t> Filling<'t> {
     }
 
     // The hole has its value.
+    #[tactic(auto, using(crate::proofs::Flips::cleared, crate::proofs::Flips::cleared_within))]
     pub(crate) fn settle(&mut self, hole: usize)
         requires within { hole < self.old.holes }
         requires owes { bit_at self.old.owed hole ≡ true }
@@ -65,6 +66,7 @@ impl<'t> Filling<'t> {
     }
 
     // The hole is owed again.
+    #[tactic(auto, using(crate::proofs::Flips::raised, crate::proofs::Flips::raised_within))]
     pub(crate) fn reopen(&mut self, hole: usize)
         requires within { hole < self.old.holes }
         requires settled { bit_at self.old.owed hole ≡ false }
@@ -98,6 +100,7 @@ impl<'t> Filling<'t> {
     }
 
     // Ends a filling that `judge_finish` accepts: every hole has its value.
+    #[tactic(auto, using(crate::proofs::Linked::none_owed, crate::proofs::Linked::finished_none))]
     pub fn finish(self) -> Finished<'t>
         requires { judged_finish self.holes self.owed ≡ Ok self.holes }
         ensures template { result.template ≡ self.entry.template }

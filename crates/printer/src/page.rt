@@ -17,6 +17,7 @@ pub struct Page {
 
 impl Page {
     // Adds bytes, and writes as many of them as the output has places for.
+    #[tactic(auto, using(crate::proofs::Writing::overlaid_copy, crate::proofs::Writing::overlaid_past))]
     pub fn put(&mut self, bytes: &[u8], out: &mut [u8])
         requires { self.old.end < 2 ^ 32 }
         ensures end { self.new.end ≡ self.old.end + length bytes.now }
@@ -30,6 +31,7 @@ impl Page {
     }
 
     // Adds the value of a hole as its body spells it.
+    #[tactic(auto, using(crate::proofs::Writing::onward_byte, crate::proofs::Writing::onward_all))]
     pub fn put_value<H: Host>(
         &mut self,
         host: &H,

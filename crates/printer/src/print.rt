@@ -21,6 +21,7 @@ use template::item::{Hole, Item};
 use template::items::{Items, Placed};
 
 // Writes as much of the text of a template as the output has places for, and answers the length of all of it.
+#[tactic(auto, using(crate::proofs::Writing::walking))]
 fn walk_text<H: Host>(
     template: &[u8],
     host: &H,
@@ -71,7 +72,6 @@ impl Finished<'_> {
 
     // The same for a caller that has surveyed the template under the sheet's host already: the template is taken as one
     // that the host accepts, and of its flaws only those are found that stop the walk.
-    #[tactic(auto, using(crate::proofs::Turned::walked_printed))]
     pub fn print_surveyed<H: Host>(&self, sheet: &Sheet<H>, out: &mut [u8]) -> Result<usize, Fault>
         ensures answer { told result ≡ weight (walked (H.meaning sheet.now.host) (value_at sheet.now.table.rows) self.now.template.now (length out.old)) }
         ensures text { out.new ≡ output out.old (walked (H.meaning sheet.now.host) (value_at sheet.now.table.rows) self.now.template.now (length out.old)) }

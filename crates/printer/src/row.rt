@@ -12,6 +12,7 @@ pub struct Row {
 
 impl Row {
     // A row that holds nothing.
+    #[tactic(auto, using(crate::proofs::Laid::of_zeros))]
     pub(crate) fn empty() -> Row
         ensures { result ≡ row_of None }
     {
@@ -30,6 +31,7 @@ impl Row {
     }
 
     // Makes the row hold the value.
+    #[tactic(auto, using(crate::proofs::Laid::laid))]
     pub(crate) fn write(&mut self, value: &[u8])
         requires { length value.now ≤ 160 }
         ensures { self.new ≡ row_of (Some value.now) }

@@ -41,6 +41,7 @@ impl<H: Host> Sheet<H> {
     }
 
     // The value in the row of a hole, empty where there is none. On a sheet that holds a slate it is the slate's.
+    #[tactic(auto, using(crate::proofs::Linked::rows_hold))]
     pub fn value(&self, hole: usize) -> &[u8]
         ensures value { result.now ≡ value_at self.now.table.rows hole }
         ensures slate { (ss : Slate) → self.now.table.rows ≡ rows_of ss → result.now ≡ values_on ss hole }

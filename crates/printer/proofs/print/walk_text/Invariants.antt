@@ -10,8 +10,6 @@ invariant-loop-read g l =
     let v = value_at l.values.rows in
     let at = l.read-iterator.at in
     record {
-      goes : (goal.iterator-loop-read g).can_next l.read-iterator;
-      ends : (goal.iterator-loop-read g).is_finite l.read-iterator;
       same_template : l.read-iterator.template.now ≡ l.template;
       within : at ≤ length l.template;
       few : l.holes ≤ at;
