@@ -56,8 +56,8 @@ fn bind_all<H: Host>(
     Ok(())
 }
 
-#[tactic(auto, using(crate::proofs::Steps::pieces_bound))]
 // Opens a filling of the template, binds its holes, finishes and prints it.
+#[tactic(auto, using(crate::proofs::Steps::pieces_bound))]
 fn fill_in<H: Host>(
     checked: Checked<'_>,
     survey: &Survey,
@@ -82,8 +82,8 @@ fn fill_in<H: Host>(
     })
 }
 
-#[tactic(auto, using(crate::proofs::Steps::comes_found, crate::proofs::Steps::weighed_some, crate::proofs::Steps::written_some))]
 // Merges the record at a place of the input, and leaves its values on the sheet.
+#[tactic(auto, using(crate::proofs::Steps::comes_found, crate::proofs::Steps::weighed_some, crate::proofs::Steps::written_some))]
 fn merge_on<H: Host>(
     template: Raw<'_>,
     sheet: &mut Sheet<H>,
