@@ -18,10 +18,6 @@ half s ss = omega (arith, digit_lt s)
 odd : (s : Option (List ℕ)) (ss : Slate) → owed_map (s ∷ ss) % 2 ≡ digit s
 odd s ss = omega (arith, digit_lt s)
 
-pub map_lt : (ss : Slate) → owed_map ss < 2 ^ length ss
-map_lt [] = omega arith
-map_lt (s ∷ ss) = omega (arith, map_lt ss, pow-suc 2 (length ss), digit_lt s)
-
 pub map_ones : (ss : Slate) → ones (owed_map ss) ≡ how_many ss
 unfolding ones
 map_ones [] = refl
@@ -87,9 +83,3 @@ map_lowest ss l = map_low 64 ss l
 pub map_fresh : (n : ℕ) → owed_map (fresh n) + 1 ≡ 2 ^ n
 map_fresh zero = refl
 map_fresh (suc n) = omega (arith, map_fresh n, pow-suc 2 n)
-
-pub lowest_none : (owed : ℕ) → owed ≡ 0 → lowest_bit owed ≡ None
-lowest_none owed e = ap lowest_bit e
-
-pub lowest_some : (owed : ℕ) → (owed ≡ 0 → ⊥) → lowest_bit owed ≡ Some (count_trailing_zeros 64 owed)
-lowest_some owed e = ap (λ (b : Bool). cond b None (Some (count_trailing_zeros 64 owed))) (ne_eqb owed 0 e)

@@ -1,12 +1,9 @@
 -- One bit of a map: how it is read, set and cleared.
-use Rattle.std.proofs.Common.{◌≡◌, ℕ, ◌+◌, ◌-◌, ◌*◌, ◌/◌, ◌%◌, ◌^◌, ◌<◌, ◌≤◌, true, false, eqb, sym, ap, ◌∙◌, subst, one-mul, pow-suc, zero-mul, one-add, arith}
-use lib.Bits.{bit_and, bit_or, bit_xor, and_mask, and_high, or_disjoint, xor_add_and, or_lt}
+use Rattle.std.proofs.Common.{◌≡◌, ℕ, ◌+◌, ◌-◌, ◌*◌, ◌/◌, ◌%◌, ◌^◌, ◌<◌, ◌≤◌, true, false, sym, ap, ◌∙◌, subst, one-mul, pow-suc, zero-mul, one-add, arith}
+use lib.Bits.{bit_and, bit_or, bit_xor, and_high, or_disjoint, xor_add_and, or_lt}
 use Rattle.std.proofs.lemmas.Nat.{one_shl, pow_below}
 use Rattle.std.proofs.lemmas.Bool.{eqb-true, eqb-false}
 use Rattle.printer.specs.Held.{bit_at}
-
-pub bit_read : (owed k : ℕ) → eqb (bit_and (owed / 2 ^ k) 1) 1 ≡ bit_at owed k
-bit_read owed k = ap (λ (x : ℕ). eqb x 1) (and_mask (owed / 2 ^ k) 1)
 
 one_bit : (k : ℕ) → 2 ^ (1 + k) - 2 ^ k ≡ 2 ^ k
 one_bit k = ap (λ (x : ℕ). 2 ^ x - 2 ^ k) (one-add k) ∙ omega (arith, pow-suc 2 k)

@@ -2,7 +2,6 @@ pub mod Laid
 pub mod Bitmap
 pub mod Linked
 pub mod Flips
-pub mod Spelt
 pub mod Unique
 pub mod Printed
 pub mod Writing

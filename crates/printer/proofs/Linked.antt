@@ -1,14 +1,12 @@
 -- Each call on a map and a table answers as the slate that they hold does, and they hold the slate after it.
-use Rattle.std.proofs.Common.{◌≡◌, ℕ, zero, suc, ◌+◌, ◌-◌, ◌%◌, ◌^◌, ◌<◌, ◌≤◌, Bool, true, false, cond, eqb, ltb, List, [], ◌∷◌, ◌++◌, map, length, get_or, set, Some, None, Ok, Err, Option, Result, sym, refl, ap, ◌∙◌, subst, ap₂, arith, length-set, get_or-set_same}
+use Rattle.std.proofs.Common.{◌≡◌, ℕ, zero, suc, ◌+◌, ◌-◌, ◌%◌, ◌^◌, ◌<◌, ◌≤◌, Bool, true, false, cond, eqb, ltb, List, [], ◌∷◌, ◌++◌, map, length, get_or, set, Some, None, Ok, Option, sym, refl, ap, ◌∙◌, subst, ap₂, arith, length-set, get_or-set_same}
 use native.Mathlib.Nat.{zero-div}
 use lib.Count.{ones, count_trailing_zeros}
 use lib.ListN.{length-map, length-replicate}
 use lib.Seq.{set-append_left, map-set, take-append_seam}
 use Rattle.std.proofs.lemmas.Bool.{ltb-true, eqb-true}
 use Rattle.host.specs.Meaning.{Meaning}
-use Rattle.fault.specs.declared.fault.Fault.{Fault}
 use Rattle.fault.specs.Refusal.{Refusal, of_hole}
-use Rattle.printer.specs.Calls.{refusal_in}
 use Rattle.printer.specs.declared.row.Row.{Row}
 use Rattle.printer.specs.Rows.{zeros, row_of, blank, value_in, value_at}
 use Rattle.printer.specs.Slate.{Slate, fresh, owed_at, how_many, lowest, judge_bind_lem, judge_value, judge_release_lem, judge_finish_lem, settled, verdict_bind, verdict_release, bound, released, value_or_none, values_on}
@@ -40,16 +38,16 @@ bind_taken m bodies n b hole v e = go (ltb hole n) b refl refl e
   where
     go : (t u : Bool) → ltb hole n ≡ t → b ≡ u → cond t (cond u (judge_value m hole (get_or bodies hole 0) v) (Some (of_hole 11 hole 0))) (Some (of_hole 10 hole 0)) ≡ None → (hole < n) × (b ≡ true)
     go true true p q r = (ltb-true hole n p, q)
-    go true false p q r = absurd (let z : ◌≡◌ {A = ℕ} 0 1 = cc in omega arith)
-    go false u p q r = absurd (let z : ◌≡◌ {A = ℕ} 0 1 = cc in omega arith)
+    go true false p q r = cc
+    go false u p q r = cc
 
 release_taken : (n : ℕ) (b : Bool) (hole : ℕ) → judge_release_lem n b hole ≡ None → (hole < n) × (b ≡ false)
 release_taken n b hole e = go (ltb hole n) b refl refl e
   where
     go : (t u : Bool) → ltb hole n ≡ t → b ≡ u → cond t (cond u (Some (of_hole 14 hole 0)) None) (Some (of_hole 10 hole 0)) ≡ None → (hole < n) × (b ≡ false)
     go true false p q r = (ltb-true hole n p, q)
-    go true true p q r = absurd (let z : ◌≡◌ {A = ℕ} 0 1 = cc in omega arith)
-    go false u p q r = absurd (let z : ◌≡◌ {A = ℕ} 0 1 = cc in omega arith)
+    go true true p q r = cc
+    go false u p q r = cc
 
 settled_holds : {st st' : State} {ss ss' : Slate} (j : Option Refusal) → (j ≡ None → Holds st' ss') → Holds st ss → Holds (settled j st' st) (settled j ss' ss)
 settled_holds None new old = new refl
@@ -114,14 +112,6 @@ pub tracks_release : (st st' : State) (hole : ℕ) (t : Option Refusal)
     → Tracks st st' t (λ ss. verdict_release ss hole) (λ ss. released ss hole)
 tracks_release st st' hole t e s ss h = (e ∙ release_judged st ss h hole, rw (s, e) (release_holds st ss h hole))
 
--- a refused call leaves what was
-pub stays : {A B : Type 0} (r : Result A Fault) (f : Fault) → r ≡ Err f → (new old : B) → old ≡ settled (refusal_in r) new old
-stays r f e new old = rw e
-
--- a state is known by its parts
-pub same_state : (st : State) (n owed : ℕ) (rows : List Row) → n ≡ st.holes → owed ≡ st.owed → rows ≡ st.rows → record { holes = n; owed = owed; rows = rows } ≡ st
-same_state st n owed rows a b c = λ i. record { holes = a i; owed = b i; rows = c i }
-
 -- where nothing is owed, each hole has its value
 pub none_owed : (n owed : ℕ) (ss : Slate) (k : ℕ) → owed ≡ 0 → Marks n owed ss → owed_at ss k ≡ false
 none_owed n owed ss k e h = sym (map_bit ss k) ∙ ap (λ (x : ℕ). bit_at x k) (sym h.bits ∙ e) ∙ ap (λ (x : ℕ). eqb (x % 2) 1) (zero-div (2 ^ k))
@@ -164,11 +154,4 @@ finished_none holes owed e = go (eqb owed 0) refl e
   where
     go : (b : Bool) → eqb owed 0 ≡ b → judge_finish_lem holes (cond b None (Some (count_trailing_zeros 64 owed))) ≡ Ok holes → owed ≡ 0
     go true q f = eqb-true owed 0 q
-    go false q f = absurd (let z : ◌≡◌ {A = ℕ} 0 1 = cc in omega arith)
-
--- a refused call is not taken
-pub not_taken : {A : Type 0} (r : Result A Fault) (f : Fault) → r ≡ Err f → refusal_in r ≡ None → ⊥
-not_taken r f e none = no_refusal (sym (ap refusal_in e) ∙ none)
-  where
-    no_refusal : {x : Refusal} → Some x ≡ None → ⊥
-    no_refusal q = let z : ◌≡◌ {A = ℕ} 0 1 = cc in omega arith
+    go false q f = cc

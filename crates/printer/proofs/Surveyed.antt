@@ -3,21 +3,17 @@ use Rattle.std.proofs.Common.{◌≡◌, ℕ, ◌≤◌, List, ◌++◌, length,
 use lib.Seq.{take-append_seam}
 use Rattle.host.specs.Meaning.{Meaning, Sound}
 use Rattle.fault.specs.declared.fault.Fault.{Fault}
-use Rattle.fault.specs.Refusal.{Report, Refusal, unfit, told}
+use Rattle.fault.specs.Refusal.{Refusal, told}
 use Rattle.template.specs.Judging.{Verdict, refused, accepted}
 use Rattle.printer.specs.Calls.{fitting_host}
 use Rattle.printer.specs.Printing.{printed, weight, output, ReadsBack}
 use Rattle.printer.proofs.Writing.{refuses, same_ok}
 use Rattle.printer.proofs.Bound.{printed_reads, printed_short}
 
--- the host accepts the template, or refuses it
+-- the host accepts the template
 pub host_takes : (d : Verdict) (n : ℕ) (bs : List ℕ) → Ok (n, bs) ≡ fitting_host d → d ≡ accepted n bs
 host_takes (refused r) n bs e = absurd (refuses (sym e))
 host_takes (accepted k cs) n bs e = sym (ap (λ (x : ℕ × List ℕ). accepted x.0 x.1) (same_ok e))
-
-pub host_refuses : (d : Verdict) (r : Refusal) → Err r ≡ fitting_host d → (q : Report) × (d ≡ refused q) × (r ≡ unfit q)
-host_refuses (refused q) r e = let same : r ≡ unfit q = cc in (q, refl, same)
-host_refuses (accepted n bs) r e = absurd (refuses e)
 
 -- what a print that agrees with `printed` says
 module _ (m : Meaning) (sound : Sound m) (v : ℕ → List ℕ) (t old new : List ℕ) (r : Result ℕ Fault) (said : told r ≡ weight (printed m v t (length old))) (is : new ≡ output old (printed m v t (length old))) where

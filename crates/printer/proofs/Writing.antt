@@ -17,7 +17,7 @@ use Rattle.template.specs.Judging.{decide, crossing}
 use Rattle.template.specs.Lexing.{Lexed, byte, hole}
 
 pub refuses : {A : Type 0} {r : Refusal} {x : A} → Err r ≡ Ok x → ⊥
-refuses e = let z : ◌≡◌ {A = ℕ} 0 1 = cc in omega arith
+refuses e = cc
 
 pub same_ok : {A : Type 0} {x y : A} → ◌≡◌ {A = Result A Refusal} (Ok x) (Ok y) → x ≡ y
 same_ok e = cc
