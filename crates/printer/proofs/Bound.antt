@@ -14,7 +14,6 @@ use Rattle.template.specs.Items.{items}
 use Rattle.template.proofs.Plans.{accepted_acceptable}
 use Rattle.template.proofs.Accepted.{accepted_is, items_of_pieces}
 use Rattle.printer.specs.Printing.{in_room, printed_as, printed_by, printed, ReadsBack}
-use Rattle.printer.proofs.Writing.{refuses, same_ok}
 
 -- a literal stands for at least one byte of its template, and a hole for at least four
 size_written : (ps : List Piece) → AllByRecursion proper ps → literals (map item ps) + 4 * holes (map item ps) ≤ length (flat_map written ps)
@@ -27,13 +26,13 @@ size_written (named n ∷ ps) ok =
 
 module _ (m : Meaning) (sound : Sound m) (v : ℕ → List ℕ) (t : List ℕ) where
   -- a text that is printed
-  text_of : (n : ℕ) (bs : List ℕ) (room : ℕ) (w : List ℕ) (first : ℕ × ℕ) (o : Option (List ℕ)) → printed_as o first room ≡ Ok w → o ≡ Some w
-  text_of n bs room w first None e = absurd (refuses e)
-  text_of n bs room w first (Some u) e = ap Some (fits (leb (length u) room) e)
+  text_of : (room : ℕ) (w : List ℕ) (first : ℕ × ℕ) (o : Option (List ℕ)) → printed_as o first room ≡ Ok w → o ≡ Some w
+  text_of room w first None e = cc
+  text_of room w first (Some u) e = ap Some (fits (leb (length u) room) e)
     where
       fits : (b : Bool) → in_room b u ≡ Ok w → u ≡ w
-      fits true f = same_ok f
-      fits false f = absurd (refuses f)
+      fits true f = cc
+      fits false f = cc
 
   record Taken (w : List ℕ) : Type 0 where
     count : ℕ
@@ -45,8 +44,8 @@ module _ (m : Meaning) (sound : Sound m) (v : ℕ → List ℕ) (t : List ℕ) w
   taken room w e = go (verdict m t) refl e
     where
       go : (d : Verdict) → verdict m t ≡ d → printed_by d m v t room ≡ Ok w → Taken w
-      go (refused r) h f = absurd (refuses f)
-      go (accepted n bs) h f = record { count = n; bodied = bs; judged = h; is = text_of n bs room w _ (text m v (items t) 0 start) f }
+      go (refused r) h f = cc
+      go (accepted n bs) h f = record { count = n; bodied = bs; judged = h; is = text_of room w _ (text m v (items t) 0 start) f }
 
   pub printed_reads : (room : ℕ) (w : List ℕ) → printed m v t room ≡ Ok w → ReadsBack m v t w
   printed_reads room w e =

@@ -1,14 +1,13 @@
 -- What is printed of a hole.
-use Rattle.std.proofs.Common.{◌≡◌, ℕ, ◌+◌, Bool, true, false, List, ◌++◌, Some, None, Err, Option, Result, sym, refl, ap, ◌∙◌}
+use Rattle.std.proofs.Common.{◌≡◌, ℕ, ◌+◌, Bool, true, false, List, ◌++◌, Some, None, Option, sym, refl, ◌∙◌}
 use Rattle.std.proofs.lemmas.Bool.{cond-true, cond-false}
 use Rattle.host.specs.Meaning.{Meaning, Brackets, chain}
 use Rattle.host.specs.declared.effect.Recipe.{Recipe}
 use Rattle.host.specs.Answers.{recipe_of, brackets_of}
-use Rattle.fault.specs.Refusal.{Refusal}
-use Rattle.template.specs.Judging.{decide, reach, crossing}
+use Rattle.template.specs.Judging.{reach, crossing}
 use Rattle.template.specs.Lexing.{Lexed, hole}
 use Rattle.template.proofs.Reading.{nothing}
-use Rattle.printer.specs.Passes.{flawed, and_then, spelt_out, prints}
+use Rattle.printer.specs.Passes.{and_then, spelt_out, prints}
 use Rattle.printer.specs.Printing.{after}
 
 module _ (m : Meaning) (v : ℕ → List ℕ) (rest : Lexed) (p k c : ℕ) where
@@ -24,6 +23,4 @@ module _ (m : Meaning) (v : ℕ → List ℕ) (rest : Lexed) (p k c : ℕ) where
       go false h = absurd (none (m.recipe c) f (sym e ∙ cond-false r.takes (Some (brackets_of r)) None h))
 
   pub prints_hole : (n : List ℕ) (r : Recipe) (x : ℕ × ℕ) → recipe_of r ≡ m.recipe c → crossing m c ≡ Some x → prints m v (hole p n rest) k c ≡ and_then (spelt_out m r.body k 0 (v k)) (λ w. after (λ t. (brackets_of r).opener ++ (w ++ ((brackets_of r).closer ++ t))) (prints m v rest (k + 1) x.1))
-  prints_hole n r x e f =
-      let body : Brackets → ℕ × ℕ → Result (List ℕ) Refusal = λ b y. and_then (spelt_out m b.body k 0 (v k)) (λ w. after (λ t. b.opener ++ (w ++ (b.closer ++ t))) (prints m v rest (k + 1) y.1)) in
-      ap (λ o. decide o (Err (flawed 7 p)) (λ b. decide (crossing m c) (Err (flawed 7 p)) (body b))) (takes r x e f) ∙ ap (λ o. decide o (Err (flawed 7 p)) (body (brackets_of r))) f
+  prints_hole n r x e f = rw (f, takes r x e f) refl

@@ -7,12 +7,12 @@ use Rattle.fault.specs.Refusal.{Refusal, told}
 use Rattle.template.specs.Judging.{Verdict, refused, accepted}
 use Rattle.printer.specs.Calls.{fitting_host}
 use Rattle.printer.specs.Printing.{printed, weight, output, ReadsBack}
-use Rattle.printer.proofs.Writing.{refuses, same_ok}
+use Rattle.printer.proofs.Writing.{same_ok}
 use Rattle.printer.proofs.Bound.{printed_reads, printed_short}
 
 -- the host accepts the template
 pub host_takes : (d : Verdict) (n : ℕ) (bs : List ℕ) → Ok (n, bs) ≡ fitting_host d → d ≡ accepted n bs
-host_takes (refused r) n bs e = absurd (refuses (sym e))
+host_takes (refused r) n bs e = cc
 host_takes (accepted k cs) n bs e = sym (ap (λ (x : ℕ × List ℕ). accepted x.0 x.1) (same_ok e))
 
 -- what a print that agrees with `printed` says
@@ -21,8 +21,8 @@ module _ (m : Meaning) (sound : Sound m) (v : ℕ → List ℕ) (t old new : Lis
   whole n e = go (printed m v t (length old)) refl (sym (ap told e) ∙ said) is
     where
       go : (x : Result (List ℕ) Refusal) → printed m v t (length old) ≡ x → Ok n ≡ weight x → new ≡ output old x → (w : List ℕ) × (printed m v t (length old) ≡ Ok w) × (n ≡ length w) × (new ≡ w ++ drop (length w) old)
-      go (Ok w) h f g = (w, h, same_ok f, g)
-      go (Err q) h f g = absurd (refuses (sym f))
+      go (Ok w) h f g = (w, h, cc, g)
+      go (Err q) h f g = cc
 
   pub reads_back : IfOk r (λ n. ReadsBack m v t (take n new))
   reads_back = go r refl

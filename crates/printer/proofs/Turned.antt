@@ -1,6 +1,7 @@
 -- What the passes of a print come to under a host that accepts the template.
 use Rattle.std.proofs.Common.{◌≡◌, ℕ, suc, ◌+◌, ◌<◌, ◌≤◌, cond, List, [], ◌∷◌, ◌++◌, length, is_some, Some, None, Ok, Err, Option, Result, sym, refl, ap, ◌∙◌, append_assoc, append-nil, arith}
 use Rattle.std.specs.List.{prefix_len}
+use Rattle.std.specs.Result.{result_ok}
 use Rattle.std.proofs.lemmas.Bool.{lt-ltb, le-ltb, cond-true, cond-false}
 use Rattle.host.specs.Meaning.{Meaning, Brackets}
 use Rattle.host.specs.Run.{start, text}
@@ -14,16 +15,15 @@ use Rattle.template.proofs.Accepted.{crossed_recipe, accepted_is}
 use Rattle.printer.specs.Slate.{spells}
 use Rattle.printer.specs.Printing.{first_turned, turned, printed_as, printed_by, printed, after}
 use Rattle.printer.specs.Passes.{flawed, and_then, spelt_out, prints, fitting, walked_by, walked}
-use Rattle.printer.proofs.Writing.{refuses}
-use Rattle.printer.proofs.Texts.{okay, texts}
+use Rattle.printer.proofs.Texts.{texts}
 
 after_ok : {A B : Type 0} (f : A → B) (x : Result A Refusal) (y : B) → after f x ≡ Ok y → (u : A) × (x ≡ Ok u)
 after_ok f (Ok u) y e = (u, refl)
-after_ok f (Err r) y e = absurd (refuses e)
+after_ok f (Err r) y e = cc
 
 after_err : {A B : Type 0} (f : A → B) (x : Result A Refusal) (r : Refusal) → after f x ≡ Err r → x ≡ Err r
-after_err f (Ok u) r e = absurd (refuses (sym e))
-after_err f (Err q) r e = let same : q ≡ r = cc in ap Err same
+after_err f (Ok u) r e = cc
+after_err f (Err q) r e = cc
 
 module _ (m : Meaning) (c k : ℕ) where
   -- a value that the body spells
@@ -31,13 +31,13 @@ module _ (m : Meaning) (c k : ℕ) where
   spelt_all i [] w e = omega arith
   spelt_all i (b ∷ bs) w e =
       elim (m.spelling c b) as (λ o. decide o (Err (turned k i)) (λ s. after (λ t. s ++ t) (spelt_out m c k (i + 1) bs)) ≡ Ok w → suc (length bs) ≤ cond (is_some o) (1 + prefix_len (spells m c) bs) 0) [
-        | None ↦ λ f. absurd (refuses f)
+        | None ↦ λ f. cc
         | Some s ↦ λ f. let u = after_ok (λ t. s ++ t) (spelt_out m c k (i + 1) bs) w f in omega (arith, spelt_all (i + 1) bs u.0 u.1)
       ] e
 
   -- and one with a byte that it turns away
   spelt_some : (i : ℕ) (bs : List ℕ) (r : Refusal) → spelt_out m c k i bs ≡ Err r → (prefix_len (spells m c) bs < length bs) × (r ≡ turned k (i + prefix_len (spells m c) bs))
-  spelt_some i [] r e = absurd (refuses (sym e))
+  spelt_some i [] r e = cc
   spelt_some i (b ∷ bs) r e =
       elim (m.spelling c b) as (λ o. decide o (Err (turned k i)) (λ s. after (λ t. s ++ t) (spelt_out m c k (i + 1) bs)) ≡ Err r → (cond (is_some o) (1 + prefix_len (spells m c) bs) 0 < suc (length bs)) × (r ≡ turned k (i + cond (is_some o) (1 + prefix_len (spells m c) bs) 0))) [
         | None ↦ λ f. let same : turned k i ≡ r = cc in (omega arith, sym same ∙ ap (turned k) (omega arith))
@@ -78,9 +78,7 @@ module _ (m : Meaning) (v : ℕ → List ℕ) where
       F r w bs = r.opener ++ (w ++ (r.closer ++ bs))
 
       shape : (x : ℕ × ℕ) (r : Brackets) → crossing m c ≡ Some x → m.recipe c ≡ Some r → prints m v (hole p name rest) k c ≡ and_then (spelt_out m r.body k 0 (v k)) (λ w. after (F r w) (prints m v rest (k + 1) x.1))
-      shape x r f g =
-          ap (λ o. decide o (Err (flawed 7 p)) (λ r. decide (crossing m c) (Err (flawed 7 p)) (λ x. and_then (spelt_out m r.body k 0 (v k)) (λ w. after (F r w) (prints m v rest (k + 1) x.1))))) g
-          ∙ ap (λ o. decide o (Err (flawed 7 p)) (λ x. and_then (spelt_out m r.body k 0 (v k)) (λ w. after (F r w) (prints m v rest (k + 1) x.1)))) f
+      shape x r f g = rw (f, g) refl
 
       go : (x : ℕ × ℕ) (b : Brackets) → b.body ≡ x.0 → (cs : List ℕ) → ((r : Refusal) → prints m v rest (k + 1) x.1 ≡ Err r → r ≡ turned (first_turned m v (k + 1) cs).0 (first_turned m v (k + 1) cs).1) → (r : Refusal) (y : Result (List ℕ) Refusal) → spelt_out m b.body k 0 (v k) ≡ y → and_then y (λ w. after (F b w) (prints m v rest (k + 1) x.1)) ≡ Err r → r ≡ turned (first_turned m v k (x.0 ∷ cs)).0 (first_turned m v k (x.0 ∷ cs)).1
       go x b same cs more r (Ok w) h f =
@@ -95,7 +93,7 @@ module _ (m : Meaning) (v : ℕ → List ℕ) where
   found (end p) k c acc n bs e =
       let d = decided (m.end c) (report 8 p) (λ x. accepted k acc) n bs e in
       let same : acc ≡ bs = cc in
-      record { tail = []; is = sym same ∙ sym (append-nil acc); turns = λ r f. absurd (refuses (sym f)) }
+      record { tail = []; is = sym same ∙ sym (append-nil acc); turns = λ r f. cc }
   found (fault r) k c acc n bs e = absurd (apart e)
 
   -- Both passes come to what is printed.
@@ -109,6 +107,6 @@ module _ (m : Meaning) (v : ℕ → List ℕ) where
       ∙ ap (λ (cs : List ℕ). printed_as (text m v (items t) 0 start) (first_turned m v 0 cs) room) (sym f.is)
       ∙ sym (ap (λ d. printed_by d m v t room) e)
     where
-      go : {first : ℕ × ℕ} {o : Option (List ℕ)} (x : Result (List ℕ) Refusal) → ((r : Refusal) → prints m v (lexed_from t 0) 0 0 ≡ Err r → r ≡ turned first.0 first.1) → okay x ≡ o → prints m v (lexed_from t 0) 0 0 ≡ x → fitting room x ≡ printed_as o first room
+      go : {first : ℕ × ℕ} {o : Option (List ℕ)} (x : Result (List ℕ) Refusal) → ((r : Refusal) → prints m v (lexed_from t 0) 0 0 ≡ Err r → r ≡ turned first.0 first.1) → result_ok x ≡ o → prints m v (lexed_from t 0) 0 0 ≡ x → fitting room x ≡ printed_as o first room
       go {first} (Ok w) turns e h = ap (λ o. printed_as o first room) e
       go {first} (Err r) turns e h = ap Err (turns r h) ∙ ap (λ o. printed_as o first room) e

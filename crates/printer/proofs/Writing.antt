@@ -1,11 +1,11 @@
 -- A text that is written piece by piece.
 use Rattle.std.proofs.Common.{◌≡◌, ℕ, zero, suc, ◌+◌, ◌-◌, ◌<◌, ◌≤◌, List, [], ◌∷◌, ◌++◌, length, get_or, take, drop, min, Some, Ok, Err, Result, sym, refl, ap, ◌∙◌, append_assoc, arith, length-append}
 use Rattle.fault.specs.Refusal.{Refusal}
-use Rattle.printer.specs.Passes.{flawed, and_then, spelt_out, prints, fitting, overlaid, onward, framed}
+use Rattle.printer.specs.Passes.{and_then, spelt_out, prints, fitting, overlaid, onward, framed}
 use Rattle.template.proofs.Read.{reads_literal, reads_hole}
 use Rattle.printer.proofs.Laid.{value_short}
 use Rattle.printer.proofs.Printed.{prints_hole}
-use Rattle.printer.specs.Printing.{turned, in_room, after, output}
+use Rattle.printer.specs.Printing.{in_room, after, output}
 use Rattle.std.proofs.lemmas.Bool.{le-leb}
 use borrow.Rule.Slice.PartMut.{put_mid}
 use Rattle.std.proofs.lemmas.List.{length-take-le, at_drop_more, at_drop_all}
@@ -13,7 +13,7 @@ use Rattle.host.specs.Meaning.{Meaning, Brackets}
 use Rattle.host.specs.declared.effect.Effect.{Effect}
 use Rattle.host.specs.declared.effect.Recipe.{Recipe}
 use Rattle.host.specs.Answers.{recipe_of, brackets_of}
-use Rattle.template.specs.Judging.{decide, crossing}
+use Rattle.template.specs.Judging.{crossing}
 use Rattle.template.specs.Lexing.{Lexed, byte, hole}
 
 pub refuses : {A : Type 0} {r : Refusal} {x : A} → Err r ≡ Ok x → ⊥
@@ -84,10 +84,7 @@ onward_none at out = rw (overlaid_none out at) (ap (λ n. Ok (n, out)) (omega ar
 -- a value from its byte i on
 module _ (m : Meaning) (c k i : ℕ) (bs : List ℕ) (end : ℕ) (out : List ℕ) where
   pub onward_byte : (s : List ℕ) → i < length bs → m.spelling c (get_or bs i 0) ≡ Some s → onward end out (spelt_out m c k i (drop i bs)) ≡ onward (end + length s) (overlaid out end s) (spelt_out m c k (i + 1) (drop (i + 1) bs))
-  onward_byte s lt e =
-      at_drop_more (λ l. onward end out (spelt_out m c k i l)) bs i 0 lt
-      ∙ ap (λ o. onward end out (decide o (Err (turned k i)) (λ u. after (λ t. u ++ t) (spelt_out m c k (i + 1) (drop (i + 1) bs))))) e
-      ∙ onward_more end out s (spelt_out m c k (i + 1) (drop (i + 1) bs))
+  onward_byte s lt e = at_drop_more (λ l. onward end out (spelt_out m c k i l)) bs i 0 lt ∙ rw e (onward_more end out s _)
 
   pub onward_all : length bs ≤ i → onward end out (spelt_out m c k i (drop i bs)) ≡ Ok (end, out)
   onward_all le = at_drop_all (λ l. onward end out (spelt_out m c k i l)) bs i le ∙ onward_none end out
@@ -100,11 +97,11 @@ onward_closer b (Ok w) at e out o h =
     let i : e ≡ at + length b.opener + length w = ap (λ (y : ℕ × List ℕ). y.0) same in
     let j : o ≡ overlaid (overlaid out at b.opener) (at + length b.opener) w = ap (λ (y : ℕ × List ℕ). y.1) same in
     rw (i, j) (sym whole)
-onward_closer b (Err r) at e out o h = absurd (refuses (sym h))
+onward_closer b (Err r) at e out o h = cc
 
 -- an item, and what follows it
 onward_frame : (b : Brackets) (x z : Result (List ℕ) Refusal) (at e : ℕ) (out o : List ℕ) → Ok (e, o) ≡ onward at out (framed b x) → onward at out (and_then x (λ w. after (λ t. b.opener ++ (w ++ (b.closer ++ t))) z)) ≡ onward e o z
-onward_frame b (Err r) z at e out o h = absurd (refuses (sym h))
+onward_frame b (Err r) z at e out o h = cc
 onward_frame b (Ok w) (Err r) at e out o h = refl
 onward_frame b (Ok w) (Ok t) at e out o h =
     let frame = b.opener ++ (w ++ b.closer) in
@@ -116,21 +113,15 @@ onward_frame b (Ok w) (Ok t) at e out o h =
 
 module _ (m : Meaning) (v : ℕ → List ℕ) (whole rest : Lexed) (p k c at : ℕ) (out : List ℕ) where
   pub onward_literal : (b : ℕ) (s : ℕ × Effect) → whole ≡ byte p b rest → m.step c b ≡ Some s → onward at out (prints m v whole k c) ≡ onward (at + 1) (overlaid out at (b ∷ [])) (prints m v rest k s.0)
-  onward_literal b s is e =
-      ap (λ l. onward at out (prints m v l k c)) is
-      ∙ ap (λ o. onward at out (decide o (Err (flawed 6 p)) (λ u. after (λ t. b ∷ t) (prints m v rest k u.0)))) e
-      ∙ onward_more at out (b ∷ []) (prints m v rest k s.0)
+  onward_literal b s is e = rw (is, e) (onward_more at out (b ∷ []) _)
 
   pub onward_hole : (n : List ℕ) (r : Recipe) (x : ℕ × ℕ) (e : ℕ) (o : List ℕ) → whole ≡ hole p n rest → recipe_of r ≡ m.recipe c → crossing m c ≡ Some x → Ok (e, o) ≡ onward at out (framed (brackets_of r) (spelt_out m r.body k 0 (v k))) → onward at out (prints m v whole k c) ≡ onward e o (prints m v rest (k + 1) x.1)
-  onward_hole n r x e o is f g h =
-      ap (λ l. onward at out (prints m v l k c)) is
-      ∙ ap (onward at out) (prints_hole m v rest p k c n r x f g)
-      ∙ onward_frame (brackets_of r) (spelt_out m r.body k 0 (v k)) (prints m v rest (k + 1) x.1) at e out o h
+  onward_hole n r x e o is f g h = rw (is, prints_hole m v rest p k c n r x f g) (onward_frame (brackets_of r) _ _ at e out o h)
 
 -- a text that is measured, and then written over an output that has room for it
 pub onward_whole : (n : ℕ) (none out new : List ℕ) (x : Result (List ℕ) Refusal) (y : Result ℕ Refusal) → Ok (n, none) ≡ onward 0 [] x → n ≤ length out → after (λ k. (k, new)) y ≡ onward 0 out x → new ≡ output out (fitting (length out) x)
-onward_whole n none out new (Err r) y h fits e = absurd (refuses (sym h))
-onward_whole n none out new (Ok w) (Err r) h fits e = absurd (refuses e)
+onward_whole n none out new (Err r) y h fits e = cc
+onward_whole n none out new (Ok w) (Err r) h fits e = cc
 onward_whole n none out new (Ok w) (Ok k) h fits e =
     let long : n ≡ 0 + length w = ap (λ (z : ℕ × List ℕ). z.0) (same_ok h) in
     let le : length w ≤ length out = omega arith in
