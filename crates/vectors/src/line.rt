@@ -99,6 +99,7 @@ fn refusal_of(value: &str) -> Result<Refusal, Unread> {
 fn unescaped(heap: Global, text: &str) -> Result<Vec<u8>, Unread> {
     let mut bytes = Vec::new(heap);
     let mut rest = text.as_bytes();
+    // Each turn takes as many bytes as its pattern has: an iterator over bytes would have to look ahead.
     loop {
         let (byte, after) = match rest {
             [] => return Ok(bytes),
