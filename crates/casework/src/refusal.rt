@@ -6,7 +6,7 @@ ghost use Rattle.casework.specs.Meant.{meant, refusal_text};
 use fault::Fault;
 use std::fmt;
 
-// A refusal, by the numbers that people know it by.
+// A refusal, by the numbers that people know it by: they are what a case expects, so they stand here as numbers.
 #[derive(Clone, Copy, PartialEq, Debug)]
 pub enum Refusal {
     // One that names a hole: the number, the hole and the place.

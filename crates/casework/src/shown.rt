@@ -4,6 +4,7 @@ ghost use Rattle.casework.specs.Showing.{is_plain_byte, shown_byte, quoted};
 
 use std::fmt;
 
+// The program shows bytes so too, in styles of its own: what tests it stands on none of its code.
 fn is_plain(byte: u8) -> bool
     ensures { result ≡ is_plain_byte byte }
 {

@@ -30,6 +30,7 @@ use template::raw::Raw;
 use template::survey::Survey;
 
 // Binds each hole of the template, in order, to the record's value of its name.
+// Filling, sheet and survey come one by one, as the printer's calls take them: a struct of the three would be taken apart at each.
 fn bind_all<H: Host>(
     template: &[u8],
     filling: &mut Filling<'_>,

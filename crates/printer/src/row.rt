@@ -1,4 +1,5 @@
-// A row of a sheet: the length and the bytes of a hole's value, with 0 past the length. The table keeps the limits.
+// A row of a sheet: the length and the bytes of a hole's value, with 0 past the length. It is plain, a buffer with its length
+// beside it, and the table keeps the limits, by a rule of the project.
 ghost use Rattle.std.specs.Prelude.{◌≡◌, ◌≤◌, length, Some, None};
 ghost use Rattle.printer.specs.Rows.{row_of, value_in};
 

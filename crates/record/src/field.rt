@@ -68,7 +68,8 @@ fn all_tail(bytes: &[u8]) -> bool
         .all(|byte| matches!(byte, b'a'..=b'z' | b'0'..=b'9' | b'_'))
 }
 
-// Whether the bytes are a name: one of a to z, then at most fifteen of a to z, 0 to 9 and _.
+// Whether the bytes are a name: one of a to z, then at most fifteen of a to z, 0 to 9 and _. The lexer of templates judges names
+// by the same rule, but byte by byte while it looks for their end.
 pub(crate) fn is_name(name: &[u8]) -> bool
     ensures { result ≡ good_name name.now }
 {

@@ -50,6 +50,7 @@ fn read_pairs(input: &[u8], place: usize) -> Result<Pairs, Fault>
     let mut entries = [Entry::default(); MOST];
     let mut count = 0;
     let mut at = place;
+    // Each field says where the next one is, so there is no row of them to go over.
     while let Head::Name(len) = judge_head(&input[at..], at)? {
         if count == MOST {
             return Err(Fault::TooManyNames { place: at });

@@ -21,6 +21,7 @@ use template::raw::Raw;
 use template::survey::Survey;
 
 // Does one line.
+// Filling, sheet and survey come one by one, as the printer's calls take them: a struct of the three would be taken apart at each.
 // Filling, sheet and survey are no struct: its methods would each have to say that host, template and survey stay.
 fn follow<H: Host>(
     filling: &mut Filling<'_>,
