@@ -1,12 +1,12 @@
 -- What a refusal by its numbers says, and how it is written.
 use Rattle.std.specs.Prelude.{ℕ, List, ◌++◌, codes, decimal, Some, None}
 use Rattle.fault.specs.Refusal.{report, plain, of_hole}
-use Rattle.fault.specs.Refusal as told
+use Rattle.fault.specs.Refusal as fault
 use Rattle.casework.specs.declared.refusal.Refusal.{Refusal}
 use Rattle.casework.specs.declared.refusal.Refusal.TheVariants.{OfHole, Carrying, Plain}
 
 -- The number, the hole, the place and what is carried.
-abbrev pub meant : Refusal → told.Refusal
+abbrev pub meant : Refusal → fault.Refusal
 meant (OfHole n k p) = of_hole n k p
 meant (Carrying n p m q) = record { number = n; hole = None; place = p; carried = Some (report m q) }
 meant (Plain n p) = plain n p

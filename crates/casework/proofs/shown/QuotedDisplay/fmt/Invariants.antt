@@ -1,4 +1,4 @@
-use Rattle.std.proofs.Common.{take, ◌++◌, codes}
+use Rattle.std.proofs.Common.{take}
 use Rattle.std.specs.Fmt.{HasWritten, IsPlainFormatter}
 use Rattle.std.specs.List.{flat_map}
 use Rattle.casework.specs.Showing.{shown_byte}
