@@ -13,6 +13,7 @@ pub enum Failure<E> {
     NoMemory,
 }
 
+// One impl for every reason would overlap with that of `AllocError`.
 impl From<Fault> for Failure<Fault> {
     ghost from_gives = { λ fault failure. failure ≡ Refused fault };
 

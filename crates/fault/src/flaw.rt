@@ -5,6 +5,9 @@ ghost use Rattle.fault.specs.Refusal.{flaw_of};
 // The most bytes that a template may have.
 pub const MAX_TEMPLATE: usize = 3584;
 
+// The most bytes that the name of a hole, and of a value in a record, may have.
+pub const MAX_NAME: usize = 16;
+
 // Places count the template's bytes from 0.
 #[derive(Clone, Copy, PartialEq, Debug)]
 pub enum Flaw {

@@ -1,8 +1,8 @@
 // A short row of bytes, kept in place.
 ghost use Rattle.std.specs.Prelude.{◌≡◌, ◌+◌, ◌<◌, ◌≤◌, ◌↔◌, [], ◌∷◌, ◌++◌, take, replicate, IsTrue};
 
-// At most N bytes.
-#[derive(Clone, Copy, PartialEq, Debug)]
+// At most N bytes. A buffer with its length: the kit's vectors of fixed capacity are not `Copy`, and a host's answers are copied.
+#[derive(Clone, Copy, Debug)]
 pub struct Bytes<const N: usize> {
     items: [u8; N],
     len: usize,

@@ -31,6 +31,7 @@ use template::survey::Survey;
 
 // Binds each hole of the template, in order, to the record's value of its name.
 // Filling, sheet and survey come one by one, as the printer's calls take them: a struct of the three would be taken apart at each.
+// A loan of a whole struct may write each field, so each call says that the host and the template stay.
 fn bind_all<H: Host>(
     template: &[u8],
     filling: &mut Filling<'_>,
@@ -43,6 +44,7 @@ fn bind_all<H: Host>(
     ensures template { filling.new.template ≡ filling.old.template }
 {
     let place = source.found.end;
+    // Only holes are counted, so `enumerate` does not serve.
     let mut hole = 0;
     for read in Items::of(template) {
         let Placed { item, .. } = read?;

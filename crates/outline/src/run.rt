@@ -120,7 +120,7 @@ impl Run {
     }
 }
 
-// A failure of the run as one of the template: a refusal is this flaw.
+// A failure of the run as one of the template: a refusal is this flaw, which comes from beside it, so that no `From` says it.
 fn flawed(failure: Failure<Refused>, flaw: Flaw) -> Failure<Flaw>
     ensures { result ≡ flawed_lem failure flaw }
 {

@@ -46,6 +46,7 @@ pub fn visits<'t, H: Host>(
     survey(template, host)?;
     let mut visits = Vec::new(heap);
     let mut context = 0;
+    // Each item is met in the context that the one before it leads to: a `map` has none.
     for read in Items::of(template) {
         let Placed { place, item } = read?;
         visits.push(Visit {

@@ -32,8 +32,8 @@ fn spelled<H: Host>(host: &H, body: u8, value: &[u8]) -> usize
         .count()
 }
 
-// Each call takes the filling and the sheet apart by a rule of the project, so no type ties the two: that the host and the
-// template stay is a clause of each.
+// Each call takes the filling and the sheet apart by a rule of the project. A loan of a whole struct may write each field, so
+// each call says that the host and the template stay.
 impl Filling<'_> {
     // Whether a hole may have a value: 10 to 13, in this order.
     fn judge_bind<H: Host>(

@@ -9,7 +9,9 @@ use fault::Fault;
 use host::Host;
 use host::effect::Recipe;
 
-// The text ends at `end`, also where the output does not reach so far.
+// The text ends at `end`, also where the output does not reach so far. The output comes with each call: as a field it would hold
+// its loan through the walk, and each clause would speak of it through that.
+// A value is a slice of the caller's, so each call asks for its bound.
 #[derive(Clone, Copy, Default)]
 pub struct Page {
     pub end: usize,

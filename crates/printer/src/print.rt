@@ -32,6 +32,7 @@ fn walk_text<H: Host>(
     ensures { after (λ n. (n, out.new)) (told result) ≡ onward 0 out.old (prints (H.meaning host.now) (value_at values.now.rows) (lexed_from template.now 0) 0 0) }
 {
     let mut context = 0;
+    // Only holes are counted, so `enumerate` does not serve.
     let mut holes = 0;
     let mut page = Page::default();
     for read in Items::of(template) {

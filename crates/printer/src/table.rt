@@ -30,7 +30,8 @@ impl Table {
         *self = Table::new();
     }
 
-    // Stores a value into a row, and leaves the others.
+    // Stores a value into a row, and leaves the others. A change copies the rows and writes the table whole, by a rule of the
+    // project. The value is a slice of the caller's, so its bound is asked for.
     pub(crate) fn store(&mut self, hole: usize, value: &[u8])
         requires within { hole < 64 }
         requires short { length value.now ≤ 160 }

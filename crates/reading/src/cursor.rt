@@ -4,7 +4,8 @@ ghost use Rattle.reading.specs.Cursors.{close_cursor, after_cursor, write_close,
 
 use host::effect::{Effect, Middle};
 
-// The fields of the closed tokens end at `at`, and the open token holds so many bytes.
+// The fields of the closed tokens end at `at`, and the open token holds so many bytes. The output comes with each call: as a field
+// it would hold its loan through the walk, and each clause would speak of it through that.
 #[derive(Clone, Copy, Default)]
 pub struct Cursor {
     pub at: usize,

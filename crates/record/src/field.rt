@@ -5,6 +5,7 @@ ghost use Rattle.record.specs.Tags.{byte_of, IsByteOf};
 ghost use Rattle.record.specs.Reading.{split, IsFieldOf, head_of, value_of, HeadLies};
 
 use fault::fault::{Fault, MAX_VALUE};
+use fault::flaw::MAX_NAME;
 
 // What a field is.
 #[derive(Clone, Copy, PartialEq, Debug)]
@@ -41,9 +42,6 @@ impl TryFrom<u8> for Tag {
     }
 }
 
-// How many bytes a name has at most.
-const NAME_MOST: usize = 16;
-
 // What a whole field is, and how many bytes follow its tag and its length.
 #[derive(Clone, Copy)]
 pub struct Field {
@@ -56,6 +54,7 @@ pub struct Field {
 pub enum Head {
     // A name of so many bytes.
     Name(usize),
+    // A field of its own, so a case of its own and no `None`.
     End,
 }
 
@@ -73,7 +72,7 @@ fn all_tail(bytes: &[u8]) -> bool
 pub(crate) fn is_name(name: &[u8]) -> bool
     ensures { result ≡ good_name name.now }
 {
-    matches!(name, [b'a'..=b'z', rest @ ..] if rest.len() < NAME_MOST && all_tail(rest))
+    matches!(name, [b'a'..=b'z', rest @ ..] if rest.len() < MAX_NAME && all_tail(rest))
 }
 
 // The field at `place`, whose bytes begin with it.

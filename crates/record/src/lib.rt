@@ -14,7 +14,7 @@ pub mod writer;
 
 use fault::Fault;
 use field::{Head, judge_head, judge_value};
-use shape::{Entry, MOST, Span, State};
+use shape::{Entry, MAX_PAIRS, Span, State};
 use table::{find_in, part};
 
 // An answer that has no entries.
@@ -26,7 +26,7 @@ fn blank(state: State, fault: Fault) -> shape::Record
     shape::Record {
         state,
         count: 0,
-        entries: [Entry::default(); MOST],
+        entries: [Entry::default(); MAX_PAIRS],
         end: 0,
         next: 0,
         fault,
@@ -34,9 +34,9 @@ fn blank(state: State, fault: Fault) -> shape::Record
 }
 
 // The pairs of a record: the first `count` entries, and the place of the end's tag after them.
-// Their number stands beside the table as in the answer that they become, a plain struct by a rule of the project.
+// Their number stands beside the table as in the answer that they become: in another form they would be copied over.
 struct Pairs {
-    entries: [Entry; MOST],
+    entries: [Entry; MAX_PAIRS],
     count: usize,
     end: usize,
 }
@@ -47,12 +47,12 @@ fn read_pairs(input: &[u8], place: usize) -> Result<Pairs, Fault>
     ensures reads { answer_pairs input.now result ≡ read_at input.now place }
     ensures lie { IfOk result (λ pairs. PairsLie (length input.now) pairs) }
 {
-    let mut entries = [Entry::default(); MOST];
+    let mut entries = [Entry::default(); MAX_PAIRS];
     let mut count = 0;
     let mut at = place;
     // Each field says where the next one is, so there is no row of them to go over.
     while let Head::Name(len) = judge_head(&input[at..], at)? {
-        if count == MOST {
+        if count == MAX_PAIRS {
             return Err(Fault::TooManyNames { place: at });
         }
         let name = Span { place: at + 3, len };

@@ -27,7 +27,7 @@ pub enum State {
 }
 
 // How many pairs a record has at most.
-pub const MOST: usize = 64;
+pub const MAX_PAIRS: usize = 64;
 
 // A record that is found has its first `count` entries, the place of its end's tag and the place after it.
 // One that is refused has the fault. What the state does not name is blank.
@@ -36,7 +36,7 @@ pub const MOST: usize = 64;
 pub struct Record {
     pub state: State,
     pub count: usize,
-    pub entries: [Entry; MOST],
+    pub entries: [Entry; MAX_PAIRS],
     pub end: usize,
     pub next: usize,
     pub fault: Fault,

@@ -8,7 +8,7 @@ ghost use Rattle.record.specs.Reading.{named};
 ghost use Rattle.record.specs.Writing.{pair_in, pairs_in, after_pair, wrong_pair, refused_pairs, verdict};
 
 use crate::field::{Tag, is_name};
-use crate::shape::MOST;
+use crate::shape::MAX_PAIRS;
 use fault::Failure;
 use fault::fault::{Fault, MAX_VALUE};
 
@@ -36,7 +36,7 @@ fn judge_pair(earlier: &[Pair<'_>], pair: Pair<'_>, place: usize) -> Result<usiz
     if !is_name(pair.name) {
         return Err(Fault::BadRecordName { place });
     }
-    if earlier.len() >= MOST {
+    if earlier.len() >= MAX_PAIRS {
         return Err(Fault::TooManyNames { place });
     }
     if has_name(earlier, pair.name) {
@@ -55,8 +55,9 @@ fn judge_pairs(pairs: &[Pair<'_>], place: usize) -> Result<usize, Fault>
     ensures { told result ≡ verdict (refused_pairs place (pairs_in pairs.now)) (length (packed (pairs_in pairs.now))) }
 {
     let mut at = place;
-    for (i, pair) in pairs.iter().enumerate() {
-        at = judge_pair(&pairs[..i], *pair, at)?;
+    // Each pair is judged with those before it, at the place where they end: a `map` has neither.
+    for (before, pair) in pairs.iter().enumerate() {
+        at = judge_pair(&pairs[..before], *pair, at)?;
     }
     Ok(at + 3 - place)
 }

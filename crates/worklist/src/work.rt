@@ -22,6 +22,7 @@ use template::survey::Survey;
 
 // Does one line.
 // Filling, sheet and survey come one by one, as the printer's calls take them: a struct of the three would be taken apart at each.
+// A loan of a whole struct may write each field, so each call says that the host and the template stay.
 // Filling, sheet and survey are no struct: its methods would each have to say that host, template and survey stay.
 fn follow<H: Host>(
     filling: &mut Filling<'_>,
