@@ -21,6 +21,7 @@ impl Tally {
     }
 
     // Prints whether a case came out as expected, and counts it.
+    // `right` says what came of the case; it picks no behaviour of the caller's.
     pub fn tell(
         &mut self,
         rt: &impl Print,
