@@ -10,7 +10,7 @@ use template::raw::Raw;
 
 // The template is a row of bytes, so many times.
 #[derive(Clone, Copy)]
-pub struct Check {
+struct Check {
     under: Under,
     row: &'static [u8],
     times: usize,

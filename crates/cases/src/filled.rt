@@ -12,7 +12,7 @@ use template::raw::Raw;
 
 // Values are bound to the holes in order, and the text is printed into an output of so many bytes.
 #[derive(Clone, Copy)]
-pub struct Filled {
+struct Filled {
     under: Under,
     template: &'static [u8],
     values: &'static [&'static [u8]],

@@ -8,7 +8,7 @@ use std::fmt;
 
 // A text is listed into an output of so many bytes.
 #[derive(Clone, Copy)]
-pub struct Listed {
+struct Listed {
     under: Under,
     text: &'static [u8],
     room: usize,

@@ -12,6 +12,7 @@ use printer::sheet::Sheet;
 use std::fmt;
 use template::check::check;
 use template::raw::Raw;
+use template::survey::MAX_HOLES;
 
 // The record at a place of the input is merged into the template, into an output of so many bytes.
 #[derive(Clone, Copy)]
@@ -33,11 +34,9 @@ impl fmt::Display for Merging {
     }
 }
 
-// The rows of a sheet.
-const ROWS: usize = 64;
-
+// A sheet has a row for each hole that a template can have.
 fn is_cleared(sheet: &Sheet<Under>) -> bool {
-    (0..ROWS).all(|hole| sheet.value(hole).is_empty())
+    (0..MAX_HOLES).all(|hole| sheet.value(hole).is_empty())
 }
 
 // Leaves a value on a sheet, so that it is seen whether a merge clears it.

@@ -31,7 +31,7 @@ pub fn check_template<'a, H: Kinds>(
         tell_holes(rt, holes.as_slice(), survey.bodies())?;
     }
     println!(rt; "plan, the tokens that the text will read as:")?;
-    tell_plan(rt, host, tokens.as_slice(), holes.as_slice())?;
+    tell_plan::<H>(rt, tokens.as_slice(), holes.as_slice())?;
     println!(rt; "checked: {}", Count(count, "hole"))?;
     Ok(())
 }
@@ -117,7 +117,6 @@ fn tell_holes(rt: &HostRuntime, holes: &[Hole<'_>], bodies: &[u8]) -> io::Result
 
 fn tell_plan<'x, H: Kinds>(
     rt: &HostRuntime,
-    host: &H,
     tokens: &'x [Token],
     holes: &'x [Hole<'x>],
 ) -> io::Result<()> {

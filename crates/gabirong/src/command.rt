@@ -11,6 +11,7 @@ pub const USAGE: &str = "usage: gabirong check HOST TEMPLATE-FILE
        gabirong pack [LINES-FILE]
 HOST is shell, sql or csv; a file that is - is standard input";
 
+// The program and the programs of cases share no code.
 #[derive(Clone, Copy)]
 pub enum HostName {
     Shell,

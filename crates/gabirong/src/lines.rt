@@ -5,7 +5,7 @@ use crate::stop::Stop;
 use std::alloc::{AllocError, AllocFailed, Global};
 use std::num::ParseIntError;
 
-// Why a line is not read.
+// Why a line is not read. The program and the programs of cases share no code.
 #[derive(Clone, Copy)]
 pub enum Unread {
     Malformed,

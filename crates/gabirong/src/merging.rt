@@ -49,14 +49,12 @@ impl<H: Host + Drop> Merging<H> {
     {
         let raw = Raw::new(self.template.as_slice());
         let input = self.input.as_slice();
-        match merge(raw, &mut self.sheet, input, place, self.out.as_mut_slice()) {
-            Ok(Some(merged)) => {
-                rt.stdout().write_all(&self.out[..merged.len])?;
-                Ok(Some(merged))
-            }
-            Ok(None) => Ok(None),
-            Err(fault) => Err(Stop::RecordRefused(fault, place)),
+        let merged = merge(raw, &mut self.sheet, input, place, self.out.as_mut_slice())
+            .map_err(|fault| Stop::RecordRefused(fault, place))?;
+        if let Some(merged) = merged {
+            rt.stdout().write_all(&self.out[..merged.len])?;
         }
+        Ok(merged)
     }
 }
 
@@ -70,6 +68,7 @@ pub fn merge_all<'a, H: Host + Drop>(
     let mut merging = Merging::open(rt, host, template, records)?;
     let mut place = 0;
     let mut count = 0usize;
+    // The next place is known only from the record that was read.
     while let Some(merged) = merging.merge_at(rt, place)? {
         place = merged.next;
         count = count.saturating_add(1);

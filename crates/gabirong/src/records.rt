@@ -15,6 +15,7 @@ pub fn tell_records<'a>(rt: &HostRuntime, path: &'a str) -> Result<(), Stop<'a>>
     let file = read_whole(rt, path)?;
     let input = file.as_slice();
     let mut place = 0;
+    // The next place is known only from the record that was read.
     while let Some(found) = record_at(input, place)? {
         println!(rt; "record at {place}")?;
         tell_pairs(rt, input, &found)?;

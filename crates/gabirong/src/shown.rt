@@ -41,6 +41,7 @@ impl Style for Escaped {
 }
 
 // The same between double quotes, with the double quote not plain.
+// The program and the programs of cases share no code.
 #[derive(Clone, Copy)]
 pub struct Quoted;
 
@@ -95,7 +96,7 @@ pub struct Count(pub usize, pub &'static str);
 impl fmt::Display for Count {
     fn fmt<W: fmt::Write>(&self, f: &mut fmt::Formatter<W>) -> fmt::Result {
         let Count(count, thing) = *self;
-        let s = if count == 1 { "" } else { "s" };
-        write!(f, "{count} {thing}{s}")
+        let ending = if count == 1 { "" } else { "s" };
+        write!(f, "{count} {thing}{ending}")
     }
 }

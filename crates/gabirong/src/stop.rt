@@ -31,6 +31,7 @@ pub enum Stop<'a> {
     Failed(anyhow::Error),
 }
 
+// By hand, and by no derive: several texts show bytes and lines in a style of the program's.
 impl fmt::Display for Stop<'_> {
     fn fmt<W: fmt::Write>(&self, f: &mut fmt::Formatter<W>) -> fmt::Result {
         match self {
@@ -82,10 +83,13 @@ impl From<Fault> for Stop<'_> {
     }
 }
 
-// A template that is checked has an outline, but for want of memory.
+// An outline that is not made.
 impl From<Failure<Flaw>> for Stop<'_> {
-    fn from(_: Failure<Flaw>) -> Self {
-        Stop::Failed(anyhow!("no memory for the outline"))
+    fn from(failure: Failure<Flaw>) -> Self {
+        match failure {
+            Failure::Refused(flaw) => Stop::Refused(Fault::from(flaw)),
+            Failure::NoMemory => Stop::Failed(anyhow!("no memory for the outline")),
+        }
     }
 }
 

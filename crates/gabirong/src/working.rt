@@ -135,25 +135,20 @@ pub fn go_down<H: Host + Drop>(
         &mut answers,
         out.as_mut_slice(),
     );
-    match worked {
-        Ok(worked) => {
-            // Where there is no print, the finish is refused.
-            let text = match worked.print.unwrap_or(worked.finish) {
-                Ok(len) => {
-                    out.truncate(len);
-                    Ok(out)
-                }
-                Err(fault) => Err(fault),
-            };
-            Ok(Done {
-                answers,
-                finish: worked.finish,
-                text,
-            })
-        }
-        Err(Failure::Refused(fault)) => Err(Stop::TextRefused(fault, template)),
-        Err(Failure::NoMemory) => Err(Stop::Failed(anyhow!("no memory for the answers"))),
-    }
+    let worked = worked.map_err(|failure| match failure {
+        Failure::Refused(fault) => Stop::TextRefused(fault, template),
+        Failure::NoMemory => Stop::Failed(anyhow!("no memory for the answers")),
+    })?;
+    // Where there is no print, the finish is refused.
+    let text = worked.print.unwrap_or(worked.finish).map(|len| {
+        out.truncate(len);
+        out
+    });
+    Ok(Done {
+        answers,
+        finish: worked.finish,
+        text,
+    })
 }
 
 // What finish and print said, and the text.
@@ -172,11 +167,8 @@ fn taken<T: Drop>(
     step: &str,
     told: Result<T, Fault>,
 ) -> Result<T, Stop<'static>> {
-    match told {
-        Ok(value) => Ok(value),
-        Err(fault) => {
-            println!(rt; "{step}: refused")?;
-            Err(Stop::Refused(fault))
-        }
+    if told.is_err() {
+        println!(rt; "{step}: refused")?;
     }
+    told.map_err(Stop::Refused)
 }

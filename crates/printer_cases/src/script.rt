@@ -4,6 +4,7 @@ use casework::shown::Quoted;
 use casework::under::Under;
 use std::fmt;
 
+// A script is a table of calls, so the calls are data.
 #[derive(Clone, Copy)]
 pub enum Call {
     // Binds a value to a hole.

@@ -82,7 +82,7 @@ static NAMED: [Named; 4] = [
 impl Named {
     fn bytes(&self, heap: Global) -> Result<Vec<u8>, AllocError> {
         (0..self.count)
-            .flat_map(|i| [1, 0, 2, b'a' + i / 26, b'a' + i % 26, 2, 0, 0])
+            .flat_map(|number| [1, 0, 2, b'a' + number / 26, b'a' + number % 26, 2, 0, 0])
             .chain(self.rest.iter().copied())
             .collect(heap)
     }
@@ -106,8 +106,8 @@ pub fn run_built(rt: &HostRuntime, tally: &mut Tally) -> anyhow::Result<()> {
         let came = read_at(input.as_slice(), 0);
         tally.tell(rt, case.about, came == case.expected)?;
     }
-    for (i, place) in CUT.iter().enumerate() {
-        let cut = &ONE_PAIR[..=i];
+    for (last, place) in CUT.iter().enumerate() {
+        let cut = &ONE_PAIR[..=last];
         let about = format_args!("a record cut after {} bytes", cut.len());
         tally.tell(
             rt,

@@ -27,7 +27,7 @@ pub enum Part {
     Refused(Refusal),
 }
 
-// Why a line is not read.
+// Why a line is not read. The program and the programs of cases share no code.
 #[derive(Clone, Copy, PartialEq, Debug)]
 pub enum Unread {
     // It is no line of a vector.
