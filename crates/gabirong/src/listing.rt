@@ -46,8 +46,9 @@ fn listing_of<H: Host>(heap: Global, host: &H, text: Vec<u8>) -> Result<Vec<u8>,
         Err(fault) => return Err(Stop::TextRefused(fault, text)),
     };
     let mut fields = vec![in heap; 0; needed]?;
-    list(host, text.as_slice(), fields.as_mut_slice())
-        .map_err(|fault| Stop::TextRefused(fault, text))?;
+    list(host, text.as_slice(), fields.as_mut_slice()).map_err(|fault| Stop::TextRefused(
+        fault, text,
+    ))?;
     Ok(fields)
 }
 

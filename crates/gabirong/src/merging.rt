@@ -49,8 +49,9 @@ impl<H: Host + Drop> Merging<H> {
     {
         let raw = Raw::new(self.template.as_slice());
         let input = self.input.as_slice();
-        let merged = merge(raw, &mut self.sheet, input, place, self.out.as_mut_slice())
-            .map_err(|fault| Stop::RecordRefused(fault, place))?;
+        let merged = merge(raw, &mut self.sheet, input, place, self.out.as_mut_slice()).map_err(
+            |fault| Stop::RecordRefused(fault, place),
+        )?;
         if let Some(merged) = merged {
             rt.stdout().write_all(&self.out[..merged.len])?;
         }

@@ -170,5 +170,5 @@ fn taken<T: Drop>(
     if told.is_err() {
         println!(rt; "{step}: refused")?;
     }
-    told.map_err(Stop::Refused)
+    told.map_err(|fault| Stop::Refused(fault))
 }
