@@ -38,6 +38,7 @@ pub fn check_template<'a, H: Kinds>(
 
 // A template that the host accepts, and the number of its holes.
 pub fn accepted<H: Host>(host: &H, template: Vec<u8>) -> Result<(Vec<u8>, usize), Stop<'static>> {
+    // The template goes into the refusal or back to the caller, and a closure would take it in either case.
     let holes = match check(Raw::new(template.as_slice()), host) {
         Ok(checked) => checked.holes(),
         Err(fault) => return Err(Stop::TextRefused(fault, template)),

@@ -39,7 +39,7 @@ pub fn list_raw<'a, H: Host>(rt: &HostRuntime, host: &H, path: &'a str) -> Resul
 
 // The fields of a text's reading.
 fn listing_of<H: Host>(heap: Global, host: &H, text: Vec<u8>) -> Result<Vec<u8>, Stop<'static>> {
-    // An output without room tells how much is needed.
+    // An output without room tells how much is needed. Of the three cases one takes the text, so this is a `match`.
     let needed = match list(host, text.as_slice(), &mut []) {
         Ok(len) => len,
         Err(Fault::OutputTooShort { needed }) => needed,

@@ -52,7 +52,8 @@ static REFUSED: [Case; 3] = [
     },
 ];
 
-// What comes of writing the pairs to a file, if there is memory.
+// What comes of writing the pairs to a file, if there is memory. A refusal is a value here, which cases expect, and want of memory
+// an error, so one answer stands in the other.
 fn write(file: &mut Vec<u8>, pairs: &[Pair<'_>]) -> Result<Result<(), Refusal>, AllocError> {
     match write_record(file, pairs) {
         Ok(()) => Ok(Ok(())),
