@@ -11,7 +11,7 @@ use Rattle.record.specs.declared.field.Head.TheVariants.{Name, End}
 use Rattle.record.specs.Format.{Pair, field, packed, Distinct, GoodPair, Good, Stands}
 use Rattle.record.specs.Reading.{Answer, found, none, faulty, split, body, head_of, value_of, on_head, on_value, named, with_value, with_name, reads, read_at}
 use Rattle.record.specs.Writing.{refused_pairs, verdict}
-use Rattle.record.specs.Law.{Law, ReadsBack, WasWritten, ReadingUndoesWriting, Kept, Agrees, Wrote}
+use Rattle.record.specs.Law.{Law, ReadsBack, WasWritten, Kept, Agrees, Wrote}
 use Rattle.record.proofs.Fields.{long_field, was_field, good_short, was_name, was_end, was_value}
 use Rattle.record.proofs.Judging.{packed_more, distinct_push, verdict_ok, refused_or_good_lem}
 use Rattle.record.proofs.Agreement.{packed_split, read_inside, reader_and_writer_agree_lem}
@@ -110,7 +110,8 @@ was_read input place ps end next c =
       next_is = w.next ∙ ap (λ l. place + length (packed l)) same;
     }
 
-pub reading_undoes_writing : ReadingUndoesWriting
+-- Reading undoes writing.
+pub reading_undoes_writing : (input : List ℕ) (place : ℕ) → Law input place (read_at input place)
 reading_undoes_writing input place = record { back = back input place; was = was_read input place }
 
 -- the law of what is answered

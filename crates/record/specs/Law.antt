@@ -25,9 +25,6 @@ pub record Law (input : List ℕ) (place : ℕ) (a : Answer) : Type 0 where
   pub back : (ps : List Pair) → Good ps → Stands ps input place → ReadsBack place a ps
   pub was : (ps : List Pair) (end next : ℕ) → a ≡ found ps end next → WasWritten input place end next ps
 
-abbrev pub ReadingUndoesWriting : Type 0
-ReadingUndoesWriting = (input : List ℕ) (place : ℕ) → Law input place (read_at input place)
-
 -- The bytes of a file hold a good record at a place: it is read back there as those pairs, whatever comes after it.
 pub record Kept (file : List ℕ) (place : ℕ) (ps : List Pair) : Type 0 where
   pub good : Good ps
