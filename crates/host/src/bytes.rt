@@ -1,5 +1,5 @@
 // A short row of bytes, kept in place.
-ghost use Rattle.std.specs.Prelude.{◌≡◌, ◌+◌, ◌<◌, ◌≤◌, ◌↔◌, [], ◌∷◌, ◌++◌, take, replicate, IsTrue};
+ghost use Rattle.std.specs.Prelude.{◌≡◌, ◌+◌, ◌-◌, ◌<◌, ◌≤◌, ◌↔◌, [], ◌∷◌, ◌++◌, take, drop, replicate, IsTrue};
 
 // At most N bytes. A buffer with its length: the kit's vectors of fixed capacity are not `Copy`, and a host's answers are copied.
 #[derive(Clone, Copy, Debug)]
@@ -12,7 +12,8 @@ pub struct Bytes<const N: usize> {
 impl<const N: usize> Bytes<N> {
     // The first N bytes of a row, or all of them.
     pub fn first(row: &[u8]) -> Self
-        ensures { take result.len result.items ≡ take N row.now }
+        ensures items { take result.len result.items ≡ take N row.now }
+        ensures rest { drop result.len result.items ≡ replicate (N - result.len) 0 }
     {
         let mut items = [0; N];
         let len = row.len().min(N);
@@ -41,6 +42,7 @@ impl<const N: usize> Bytes<N> {
         requires { self.old.len < N }
         ensures len { self.new.len ≡ self.old.len + 1 }
         ensures items { take self.new.len self.new.items ≡ take self.old.len self.old.items ++ byte ∷ [] }
+        ensures rest { drop self.new.len self.new.items ≡ drop self.new.len self.old.items }
     {
         self.items[self.len] = byte;
         self.len += 1;
