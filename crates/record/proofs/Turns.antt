@@ -1,6 +1,6 @@
 -- One turn of reading a record. Assumes nothing.
-use Rattle.std.proofs.Common.{◌≡◌, ℕ, zero, suc, ◌+◌, ◌-◌, ◌<◌, ◌≤◌, true, false, List, Ok, Err, length, take, drop, set, is_some, All, sym, ap, ◌∙◌, subst, arith}
-use Rattle.std.proofs.lemmas.List.{drop-drop, take_more_set, map_push, length-set}
+use Rattle.std.proofs.Common.{◌≡◌, ℕ, zero, suc, ◌+◌, ◌-◌, ◌<◌, ◌≤◌, true, false, List, [], ◌∷◌, ◌++◌, Ok, Err, length, take, drop, set, replicate, is_some, All, sym, refl, ap, ◌∙◌, subst, arith}
+use Rattle.std.proofs.lemmas.List.{drop-drop, drop-set-lt, drop-replicate, take_more_set, map_push, length-set}
 use Rattle.std.proofs.lemmas.List.Elements.{All-push}
 use Rattle.record.specs.declared.shape.Entry.{Entry}
 use Rattle.fault.specs.declared.fault.Fault.{Fault}
@@ -8,7 +8,7 @@ use Rattle.fault.specs.declared.fault.Fault.TheVariants.{NameTwice}
 use Rattle.record.specs.declared.field.Head.TheVariants.{Name, End}
 use Rattle.record.specs.Format.{Pair}
 use Rattle.record.specs.Reading.{Answer, found, faulty, body, head_of, value_of, named, with_value, reads}
-use Rattle.record.specs.Answers.{pair_of, pairs_of, value_span, Lies}
+use Rattle.record.specs.Answers.{pair_of, pairs_of, value_span, Lies, InARow, blank_entry, BlankAfter}
 use Rattle.record.proofs.Spans.{span_named}
 
 -- what the field at a place comes to
@@ -31,15 +31,22 @@ module _ (ps : List Pair) (p : ℕ) (bs : List ℕ) where
     reads_pair : (v : ℕ) → named (body n bs) ps ≡ false → value_of (p + (3 + n)) (drop (3 + n) bs) ≡ Ok v → reads (suc room) ps p bs ≡ with_value (reads room) ps p bs n v
     reads_pair v t w = rw (e, t, w)
 
--- The first count entries are read, the next head is at a place of the input, and the whole comes to an answer.
-pub record Sofar (input : List ℕ) (whole : Answer) (es : List Entry) (count at : ℕ) : Type 0 where
+-- one more entry at the end of a row
+row_push : (p q : ℕ) (es : List Entry) (e : Entry) → InARow p es q → e.name.place ≡ q + 3 → e.value.place ≡ e.name.place + e.name.len + 3 → InARow p (es ++ e ∷ []) (e.value.place + e.value.len)
+row_push p q [] e r n v = (n ∙ ap (λ k. k + 3) (sym r), v, refl)
+row_push p q (x ∷ xs) e r n v = (r.0, r.1, row_push (x.value.place + x.value.len) q xs e r.2 n v)
+
+-- The first count entries are read from the start on, the next head is at a place of the input, and the whole comes to an answer.
+pub record Sofar (input : List ℕ) (start : ℕ) (whole : Answer) (es : List Entry) (count at : ℕ) : Type 0 where
   pub few : count ≤ 64
   pub sized : length es ≡ 64
   pub inside : at ≤ length input
   pub lie : All (λ e. Lies (length input) e.name × Lies (length input) e.value) (take count es)
+  pub row : InARow start (take count es) at
+  pub rest : BlankAfter count es
   pub left : reads (64 - count) (pairs_of input (take count es)) at (drop at input) ≡ whole
 
-module _ {input : List ℕ} {whole : Answer} {es : List Entry} {count at : ℕ} (s : Sofar input whole es count at) where
+module _ {input : List ℕ} {start : ℕ} {whole : Answer} {es : List Entry} {count at : ℕ} (s : Sofar input start whole es count at) where
   abbrev ps : List Pair
   ps = pairs_of input (take count es)
 
@@ -80,7 +87,7 @@ module _ {input : List ℕ} {whole : Answer} {es : List Entry} {count at : ℕ} 
       pub at_bad_value : (f : Fault) → value_of due (drop due input) ≡ Err f → faulty f ≡ whole
       at_bad_value f w = sym (reads_bad_value ps at bs n e (64 - (count + 1)) f (name_named ∙ t) (sym same_value ∙ w)) ∙ room
 
-      pub turn : (v : ℕ) → value_of due (drop due input) ≡ Ok v → due + 3 + v ≤ length input → Sofar input whole (set es count (record { name = record { place = at + 3; len = n }; value = record { place = due + 3; len = v } })) (count + 1) (due + 3 + v)
+      pub turn : (v : ℕ) → value_of due (drop due input) ≡ Ok v → due + 3 + v ≤ length input → Sofar input start whole (set es count (record { name = record { place = at + 3; len = n }; value = record { place = due + 3; len = v } })) (count + 1) (due + 3 + v)
       turn v w fits =
           let e' : Entry = record { name = record { place = at + 3; len = n }; value = record { place = due + 3; len = v } } in
           let P : Entry → Type 0 = λ x. Lies (length input) x.name × Lies (length input) x.value in
@@ -94,10 +101,13 @@ module _ {input : List ℕ} {whole : Answer} {es : List Entry} {count at : ℕ} 
           let same = same_due in
           let pairs = map_push (pair_of input) (take count es) e' in
           let whole_is = room in
+          let fewer : 64 - count - 1 ≡ 64 - (count + 1) = omega arith in
           record {
             few = omega arith;
             sized = length-set es count e' ∙ s.sized;
             inside = fits;
             lie = subst (All P) (sym pushed) (All-push P (take count es) e' s.lie (omega arith, omega arith));
+            row = subst (λ l. InARow start l (due + 3 + v)) (sym pushed) (row_push start at (take count es) e' s.row refl refl);
+            rest = drop-set-lt (count + 1) es count e' (omega arith) ∙ sym (drop-drop 1 count es) ∙ ap (drop 1) s.rest ∙ drop-replicate 1 (64 - count) blank_entry ∙ ap (λ k. replicate k blank_entry) fewer;
             left = cc;
           }

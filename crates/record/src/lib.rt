@@ -2,7 +2,7 @@
 #![tactic(auto)]
 
 ghost use Rattle.std.specs.Prelude.{◌≡◌, ◌<◌, length, IfOk, IfSome};
-ghost use Rattle.record.specs.Answers.{answer, answer_pairs, answer_read, PairsLie, Within};
+ghost use Rattle.record.specs.Answers.{answer, answer_pairs, answer_read, BlankAfter, Laid, PairsLie, Within};
 ghost use Rattle.record.specs.Law.{Law};
 ghost use Rattle.record.specs.Reading.{read_at};
 
@@ -22,6 +22,9 @@ fn blank(state: State, fault: Fault) -> shape::Record
     ensures state { result.state ≡ state }
     ensures fault { result.fault ≡ fault }
     ensures count { result.count ≡ 0 }
+    ensures end { result.end ≡ 0 }
+    ensures next { result.next ≡ 0 }
+    ensures entries { BlankAfter 0 result.entries }
 {
     shape::Record {
         state,
@@ -45,7 +48,7 @@ struct Pairs {
 fn read_pairs(input: &[u8], place: usize) -> Result<Pairs, Fault>
     requires { place < length input.now }
     ensures reads { answer_pairs input.now result ≡ read_at input.now place }
-    ensures lie { IfOk result (λ pairs. PairsLie (length input.now) pairs) }
+    ensures lie { IfOk result (λ pairs. PairsLie place (length input.now) pairs) }
 {
     let mut entries = [Entry::default(); MAX_PAIRS];
     let mut count = 0;
@@ -78,7 +81,7 @@ fn read_pairs(input: &[u8], place: usize) -> Result<Pairs, Fault>
 // What stands at a place of the input: the pairs of a record, or nothing at the input's end.
 fn read_from(input: &[u8], place: usize) -> Result<Option<Pairs>, Fault>
     ensures reads { answer_read input.now result ≡ read_at input.now place }
-    ensures lie { IfOk result (λ read. IfSome read (λ pairs. PairsLie (length input.now) pairs)) }
+    ensures lie { IfOk result (λ read. IfSome read (λ pairs. PairsLie place (length input.now) pairs)) }
 {
     if place > input.len() {
         return Err(Fault::FieldCutShort { place: input.len() });
@@ -95,6 +98,7 @@ fn read_from(input: &[u8], place: usize) -> Result<Option<Pairs>, Fault>
 pub fn record(input: &[u8], place: usize) -> shape::Record
     ensures reads { answer input.now result ≡ read_at input.now place }
     ensures within { Within (length input.now) result }
+    ensures laid { Laid place result }
     ensures law { Law input.now place (answer input.now result) }
 {
     match read_from(input, place) {

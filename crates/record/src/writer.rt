@@ -78,7 +78,8 @@ fn put_field(file: &mut Vec<u8>, tag: Tag, bytes: &[u8])
 fn put_record(file: &mut Vec<u8>, pairs: &[Pair<'_>])
     requires good { Good (pairs_in pairs.now) }
     requires room { vec_len file.old + length (packed (pairs_in pairs.now)) ≤ vec_capacity file.old }
-    ensures { file.new.items ≡ file.old.items ++ packed (pairs_in pairs.now) }
+    ensures items { file.new.items ≡ file.old.items ++ packed (pairs_in pairs.now) }
+    ensures capacity { vec_capacity file.old ≤ vec_capacity file.new }
 {
     for pair in pairs {
         put_field(file, Tag::Name, pair.name);
@@ -89,7 +90,8 @@ fn put_record(file: &mut Vec<u8>, pairs: &[Pair<'_>])
 
 // Adds the written form of a record to the end of a file's bytes, or leaves them as they are.
 pub fn write_record(file: &mut Vec<u8>, pairs: &[Pair<'_>]) -> Result<(), Failure<Fault>>
-    ensures { Wrote (vec_capacity file.old) file.old.items file.new.items (pairs_in pairs.now) result }
+    ensures wrote { Wrote (vec_capacity file.old) file.old.items file.new.items (pairs_in pairs.now) result }
+    ensures capacity { vec_capacity file.old ≤ vec_capacity file.new }
 {
     let len = judge_pairs(pairs, file.len())?;
     file.reserve(len)?;

@@ -6,5 +6,5 @@ use Rattle.record.proofs.writer.write_record.Goals as goal
 pub put_record-requires-clause-good : goal.put_record-requires-clause-good
 put_record-requires-clause-good c = (refused_or_good_lem _ _).good (verdict_ok _ _ _ c.in_ok-len.ensures).0
 
-pub returns : goal.returns
-returns c = wrote _ _ _ _ _ _ (c.len.ensures ∙ c.args.file.now.ok.0) c.in_ok-len.ensures (search rules)
+pub returns-clause-wrote : goal.returns-clause-wrote
+returns-clause-wrote c = wrote _ _ _ _ _ _ (c.len.ensures ∙ c.args.file.now.ok.0) c.in_ok-len.ensures (search rules)
