@@ -1,7 +1,7 @@
 // The command `check`: whether a host takes a template, and how it reads it.
 use crate::input::read_whole;
 use crate::kinds::{KindName, Kinds};
-use crate::shown::{Count, Line, Quoted, Shown, Style};
+use crate::shown::{Count, Line, Quoted, Shown, Style, Word};
 use crate::stop::Stop;
 use host::Host;
 use outline::{Symbol, Token, Visit, plan, visits};
@@ -18,7 +18,7 @@ pub fn check_template<'a, H: Kinds>(
     path: &'a str,
 ) -> Result<(), Stop<'a>> {
     let file = read_whole(rt, path)?;
-    println!(rt; "read {path}: {} bytes", file.len())?;
+    println!(rt; "read {}: {} bytes", Word(path), file.len())?;
     let (file, count) = accepted(host, file)?;
     let template = file.as_slice();
     let visits = visits(rt.alloc(), template, host)?;

@@ -1,6 +1,7 @@
 // The command `fill`: values by name, filled into a template.
 use crate::check::{accepted, holes_of};
 use crate::input::read_whole;
+use crate::shown::Word;
 use crate::stop::Stop;
 use crate::working::{Done, Told, go_down, tell_end};
 use host::Host;
@@ -35,7 +36,7 @@ pub fn fill_template<'a, H: Host + Drop>(
     pairs: &'a [String],
 ) -> Result<(), Stop<'a>> {
     let (file, binds) = read_bound(rt, &host, path, pairs)?;
-    println!(rt; "read {path}: {} bytes", file.len())?;
+    println!(rt; "read {}: {} bytes", Word(path), file.len())?;
     let done = fill(rt.alloc(), host, file, binds.as_slice())?;
     for (bind, answer) in binds.iter().zip(done.answers.as_slice()) {
         println!(rt; "bind {} {}: {}", bind.hole, bind.name, Told(answer))?;

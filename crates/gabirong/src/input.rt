@@ -1,4 +1,5 @@
 // Files, read whole.
+use crate::shown::Word;
 use crate::stop::Stop;
 use std::io::Read;
 use std::{fmt, fs, io};
@@ -12,7 +13,7 @@ pub struct Unreadable<'a> {
 
 impl fmt::Display for Unreadable<'_> {
     fn fmt<W: fmt::Write>(&self, f: &mut fmt::Formatter<W>) -> fmt::Result {
-        let path = self.path;
+        let path = Word(self.path);
         write!(f, "cannot read {path}: {}", self.error)
     }
 }

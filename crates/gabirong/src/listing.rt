@@ -4,7 +4,7 @@ ghost use Rattle.std.specs.Iterator.{at_most};
 
 use crate::input::read_whole;
 use crate::kinds::{KindName, Kinds};
-use crate::shown::{Count, Quoted, Shown};
+use crate::shown::{Count, Quoted, Shown, Word};
 use crate::stop::Stop;
 use fault::Fault;
 use host::Host;
@@ -15,7 +15,7 @@ use std::io::Write;
 // Prints a line for each token.
 pub fn list_text<'a, H: Kinds>(rt: &HostRuntime, host: &H, path: &'a str) -> Result<(), Stop<'a>> {
     let text = read_whole(rt, path)?;
-    println!(rt; "read {path}: {} bytes", text.len())?;
+    println!(rt; "read {}: {} bytes", Word(path), text.len())?;
     let listing = listing_of(rt.alloc(), host, text)?;
     for (number, (kind, value)) in Fields(listing.as_slice()).enumerate() {
         let name = KindName::<H::Kind>::of(kind);

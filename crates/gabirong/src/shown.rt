@@ -67,6 +67,16 @@ impl<S: Style> fmt::Display for Shown<'_, S> {
     }
 }
 
+// A word of the command line, as a line shows it: the name of a file or of a hole.
+#[derive(Clone, Copy)]
+pub struct Word<'a>(pub &'a str);
+
+impl fmt::Display for Word<'_> {
+    fn fmt<W: fmt::Write>(&self, f: &mut fmt::Formatter<W>) -> fmt::Result {
+        write!(f, "{}", Shown(self.0.as_bytes(), Line))
+    }
+}
+
 // The line of a text that has a place, with a caret under the place.
 #[derive(Clone, Copy)]
 pub struct LineAt<'a>(pub &'a [u8], pub usize);

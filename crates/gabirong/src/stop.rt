@@ -1,7 +1,7 @@
 // Why a command is not done, as standard error tells it.
 use crate::command::USAGE;
 use crate::input::Unreadable;
-use crate::shown::{Line, LineAt, Shown};
+use crate::shown::{LineAt, Word};
 use anyhow::anyhow;
 use fault::{Failure, Fault, Flaw};
 use std::alloc::{AllocError, AllocFailed};
@@ -39,15 +39,11 @@ impl fmt::Display for Stop<'_> {
             Stop::Unreadable(file) => write!(f, "{file}"),
             Stop::BothUnreadable(first, second) => write!(f, "{first}\n{second}"),
             Stop::InputTwice => write!(f, "only one of the files can be standard input"),
-            Stop::NoText(name) => write!(f, "{name} is no text"),
+            Stop::NoText(name) => write!(f, "{} is no text", Word(name)),
             Stop::BadLine(number, form) => write!(f, "line {number} is no {form}"),
             Stop::NoPair(number) => write!(f, "pair {number} is no NAME=VALUE"),
-            Stop::GivenTwice(name) => write!(f, "{} is given twice", Shown(name.as_bytes(), Line)),
-            Stop::NoHoleNamed(name) => write!(
-                f,
-                "no hole is named {}",
-                Shown(name.as_bytes(), Line)
-            ),
+            Stop::GivenTwice(name) => write!(f, "{} is given twice", Word(name)),
+            Stop::NoHoleNamed(name) => write!(f, "no hole is named {}", Word(name)),
             Stop::Refused(fault) => write!(f, "refused {fault}"),
             Stop::TextRefused(fault, text) => {
                 let line = LineAt(text.as_slice(), fault.place());
