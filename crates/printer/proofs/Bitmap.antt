@@ -6,7 +6,7 @@ use Rattle.std.specs.Option.{option_map}
 use Rattle.std.proofs.lemmas.Nat.{shr-shr}
 use Rattle.std.proofs.lemmas.Bool.{ne_eqb, false≢true, true≢false}
 use Rattle.printer.specs.Slate.{Slate, fresh, owes, owed_at, digit, how_many, lowest}
-use Rattle.printer.specs.Held.{owed_map, bit_at, lowest_bit}
+use Rattle.printer.specs.Held.{owed_map, owed_bit, lowest_bit}
 
 pub digit_lt : (s : Option (List ℕ)) → digit s < 2
 digit_lt None = omega arith
@@ -36,7 +36,7 @@ digit_owes : (s : Option (List ℕ)) → eqb (digit s) 1 ≡ owes s
 digit_owes None = refl
 digit_owes (Some v) = refl
 
-pub map_bit : (ss : Slate) (k : ℕ) → bit_at (owed_map ss) k ≡ owed_at ss k
+pub map_bit : (ss : Slate) (k : ℕ) → owed_bit (owed_map ss) k ≡ owed_at ss k
 map_bit ss k = ap (λ (x : ℕ). eqb x 1) (map_digit ss k) ∙ digit_owes (get_or ss k (Some []))
 
 -- a value takes the hole's bit off, and a release puts it on

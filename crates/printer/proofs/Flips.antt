@@ -3,7 +3,7 @@ use Rattle.std.proofs.Common.{◌≡◌, ℕ, ◌+◌, ◌-◌, ◌*◌, ◌/◌
 use lib.Bits.{bit_and, bit_or, bit_xor, and_high, or_disjoint, xor_add_and, or_lt}
 use Rattle.std.proofs.lemmas.Nat.{one_shl, pow_below}
 use Rattle.std.proofs.lemmas.Bool.{eqb-true, eqb-false}
-use Rattle.printer.specs.Held.{bit_at}
+use Rattle.printer.specs.Held.{owed_bit}
 
 one_bit : (k : ℕ) → 2 ^ (1 + k) - 2 ^ k ≡ 2 ^ k
 one_bit k = ap (λ (x : ℕ). 2 ^ x - 2 ^ k) (one-add k) ∙ omega (arith, pow-suc 2 k)
@@ -19,15 +19,15 @@ module _ (owed holes k : ℕ) (few : holes ≤ 64) (within : owed < 2 ^ holes) (
   shift : shifted k ≡ 2 ^ k
   shift = one_shl k 64 (omega arith)
 
-  pub cleared : bit_at owed k ≡ true → bit_xor owed (shifted k) ≡ owed - 2 ^ k
+  pub cleared : owed_bit owed k ≡ true → bit_xor owed (shifted k) ≡ owed - 2 ^ k
   cleared t =
       let on : bit_and owed (2 ^ k) ≡ 2 ^ k = and_bit owed k ∙ ap (λ (x : ℕ). x * 2 ^ k) (eqb-true _ 1 t) ∙ one-mul (2 ^ k) in
       ap (λ (x : ℕ). bit_xor owed x) shift ∙ omega (arith, xor_add_and owed (2 ^ k), on)
 
-  pub cleared_within : bit_at owed k ≡ true → bit_xor owed (shifted k) < 2 ^ holes
+  pub cleared_within : owed_bit owed k ≡ true → bit_xor owed (shifted k) < 2 ^ holes
   cleared_within t = omega (arith, cleared t)
 
-  pub raised : bit_at owed k ≡ false → bit_or owed (shifted k) ≡ owed + 2 ^ k
+  pub raised : owed_bit owed k ≡ false → bit_or owed (shifted k) ≡ owed + 2 ^ k
   raised f =
       let zero_bit : owed / 2 ^ k % 2 ≡ 0 = omega (arith, eqb-false _ 1 f) in
       let off : bit_and owed (2 ^ k) ≡ 0 = and_bit owed k ∙ ap (λ (x : ℕ). x * 2 ^ k) zero_bit ∙ zero-mul (2 ^ k) in

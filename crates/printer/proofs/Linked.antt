@@ -10,7 +10,7 @@ use Rattle.fault.specs.Refusal.{Refusal, of_hole}
 use Rattle.printer.specs.declared.row.Row.{Row}
 use Rattle.printer.specs.Rows.{zeros, row_of, blank, value_in, value_at}
 use Rattle.printer.specs.Slate.{Slate, fresh, owed_at, how_many, lowest, judge_bind_lem, judge_value, judge_release_lem, judge_finish_lem, settled, verdict_bind, verdict_release, bound, released, value_or_none, values_on}
-use Rattle.printer.specs.Held.{rows_of, State, opened, filled, freed, Marks, Holds, Tracks, bit_at, lowest_bit, judged_finish}
+use Rattle.printer.specs.Held.{rows_of, State, opened, filled, freed, Marks, Holds, Tracks, owed_bit, lowest_bit, judged_finish}
 use Rattle.printer.proofs.Laid.{past}
 use Rattle.printer.proofs.Bitmap.{map_bit, map_fill, map_free, map_fresh, map_ones, map_lowest}
 
@@ -54,16 +54,16 @@ settled_holds None new old = new refl
 settled_holds (Some e) new old = old
 
 module _ (st : State) (ss : Slate) (h : Holds st ss) where
-  bit_is : (hole : ℕ) → bit_at st.owed hole ≡ owed_at ss hole
-  bit_is hole = ap (λ (x : ℕ). bit_at x hole) h.marks.bits ∙ map_bit ss hole
+  bit_is : (hole : ℕ) → owed_bit st.owed hole ≡ owed_at ss hole
+  bit_is hole = ap (λ (x : ℕ). owed_bit x hole) h.marks.bits ∙ map_bit ss hole
 
-  bind_judged : (m : Meaning) (bodies : List ℕ) (hole : ℕ) (v : List ℕ) → judge_bind_lem m bodies st.holes (bit_at st.owed hole) hole v ≡ verdict_bind m bodies ss hole v
+  bind_judged : (m : Meaning) (bodies : List ℕ) (hole : ℕ) (v : List ℕ) → judge_bind_lem m bodies st.holes (owed_bit st.owed hole) hole v ≡ verdict_bind m bodies ss hole v
   bind_judged m bodies hole v = ap₂ (λ (k : ℕ) (b : Bool). judge_bind_lem m bodies k b hole v) (sym h.marks.count) (bit_is hole)
 
-  release_judged : (hole : ℕ) → judge_release_lem st.holes (bit_at st.owed hole) hole ≡ verdict_release ss hole
+  release_judged : (hole : ℕ) → judge_release_lem st.holes (owed_bit st.owed hole) hole ≡ verdict_release ss hole
   release_judged hole = ap₂ (λ (k : ℕ) (b : Bool). judge_release_lem k b hole) (sym h.marks.count) (bit_is hole)
 
-  fill_holds : (hole : ℕ) (v : List ℕ) → hole < st.holes → bit_at st.owed hole ≡ true → Holds (filled st hole v) (set ss hole (Some v))
+  fill_holds : (hole : ℕ) (v : List ℕ) → hole < st.holes → owed_bit st.owed hole ≡ true → Holds (filled st hole v) (set ss hole (Some v))
   fill_holds hole v l t = record {
     marks = record {
       count = length-set ss hole (Some v) ∙ h.marks.count;
@@ -72,7 +72,7 @@ module _ (st : State) (ss : Slate) (h : Holds st ss) where
     laid = ap (λ (rs : List Row). set rs hole (row_of (Some v))) h.laid ∙ rows_set ss hole (Some v) (omega (arith, h.marks.count));
   }
 
-  free_holds : (hole : ℕ) → hole < st.holes → bit_at st.owed hole ≡ false → Holds (freed st hole) (set ss hole None)
+  free_holds : (hole : ℕ) → hole < st.holes → owed_bit st.owed hole ≡ false → Holds (freed st hole) (set ss hole None)
   free_holds hole l f = record {
     marks = record {
       count = length-set ss hole None ∙ h.marks.count;
@@ -81,17 +81,17 @@ module _ (st : State) (ss : Slate) (h : Holds st ss) where
     laid = ap (λ (rs : List Row). set rs hole (row_of None)) h.laid ∙ rows_set ss hole None (omega (arith, h.marks.count));
   }
 
-  bind_holds : (m : Meaning) (bodies : List ℕ) (hole : ℕ) (v : List ℕ) → Holds (settled (judge_bind_lem m bodies st.holes (bit_at st.owed hole) hole v) (filled st hole v) st) (bound m bodies ss hole v)
+  bind_holds : (m : Meaning) (bodies : List ℕ) (hole : ℕ) (v : List ℕ) → Holds (settled (judge_bind_lem m bodies st.holes (owed_bit st.owed hole) hole v) (filled st hole v) st) (bound m bodies ss hole v)
   bind_holds m bodies hole v =
-      let j = judge_bind_lem m bodies st.holes (bit_at st.owed hole) hole v in
+      let j = judge_bind_lem m bodies st.holes (owed_bit st.owed hole) hole v in
       subst (λ (k : Option Refusal). Holds (settled j (filled st hole v) st) (settled k (set ss hole (Some v)) ss)) (bind_judged m bodies hole v)
-      (settled_holds j (λ e. let p = bind_taken m bodies st.holes (bit_at st.owed hole) hole v e in fill_holds hole v p.0 p.1) h)
+      (settled_holds j (λ e. let p = bind_taken m bodies st.holes (owed_bit st.owed hole) hole v e in fill_holds hole v p.0 p.1) h)
 
-  release_holds : (hole : ℕ) → Holds (settled (judge_release_lem st.holes (bit_at st.owed hole) hole) (freed st hole) st) (released ss hole)
+  release_holds : (hole : ℕ) → Holds (settled (judge_release_lem st.holes (owed_bit st.owed hole) hole) (freed st hole) st) (released ss hole)
   release_holds hole =
-      let j = judge_release_lem st.holes (bit_at st.owed hole) hole in
+      let j = judge_release_lem st.holes (owed_bit st.owed hole) hole in
       subst (λ (k : Option Refusal). Holds (settled j (freed st hole) st) (settled k (set ss hole None) ss)) (release_judged hole)
-      (settled_holds j (λ e. let p = release_taken st.holes (bit_at st.owed hole) hole e in free_holds hole p.0 p.1) h)
+      (settled_holds j (λ e. let p = release_taken st.holes (owed_bit st.owed hole) hole e in free_holds hole p.0 p.1) h)
 
 -- the count of the owed holes, and the lowest
 pub low_is : (n owed : ℕ) (ss : Slate) → n ≤ 64 → Marks n owed ss → lowest_bit owed ≡ lowest ss
@@ -102,19 +102,19 @@ counted n owed ss few h = ap₂ (λ (a : ℕ) (b : Option ℕ). (a, b)) (ap ones
 
 -- a call that answers by the map and leaves what its answer says
 pub tracks_bind : (st st' : State) (m : Meaning) (bodies : List ℕ) (hole : ℕ) (v : List ℕ) (t : Option Refusal)
-    → t ≡ judge_bind_lem m bodies st.holes (bit_at st.owed hole) hole v → st' ≡ settled t (filled st hole v) st
+    → t ≡ judge_bind_lem m bodies st.holes (owed_bit st.owed hole) hole v → st' ≡ settled t (filled st hole v) st
     → Tracks st st' t (λ ss. verdict_bind m bodies ss hole v) (λ ss. bound m bodies ss hole v)
 tracks_bind st st' m bodies hole v t e s ss h =
     (e ∙ bind_judged st ss h m bodies hole v, rw (s, e) (bind_holds st ss h m bodies hole v))
 
 pub tracks_release : (st st' : State) (hole : ℕ) (t : Option Refusal)
-    → t ≡ judge_release_lem st.holes (bit_at st.owed hole) hole → st' ≡ settled t (freed st hole) st
+    → t ≡ judge_release_lem st.holes (owed_bit st.owed hole) hole → st' ≡ settled t (freed st hole) st
     → Tracks st st' t (λ ss. verdict_release ss hole) (λ ss. released ss hole)
 tracks_release st st' hole t e s ss h = (e ∙ release_judged st ss h hole, rw (s, e) (release_holds st ss h hole))
 
 -- where nothing is owed, each hole has its value
 pub none_owed : (n owed : ℕ) (ss : Slate) (k : ℕ) → owed ≡ 0 → Marks n owed ss → owed_at ss k ≡ false
-none_owed n owed ss k e h = sym (map_bit ss k) ∙ ap (λ (x : ℕ). bit_at x k) (sym h.bits ∙ e) ∙ ap (λ (x : ℕ). eqb (x % 2) 1) (zero-div (2 ^ k))
+none_owed n owed ss k e h = sym (map_bit ss k) ∙ ap (λ (x : ℕ). owed_bit x k) (sym h.bits ∙ e) ∙ ap (λ (x : ℕ). eqb (x % 2) 1) (zero-div (2 ^ k))
 
 -- a row gives back the value of its hole
 value_of : (s : Option (List ℕ)) → value_in (row_of s) ≡ value_or_none s

@@ -18,8 +18,8 @@ abbrev pub rows_of : Slate → List Row
 rows_of ss = map row_of ss ++ blank (64 - length ss)
 
 -- What a map says: whether a hole is owed, and the lowest that is.
-abbrev pub bit_at : ℕ → ℕ → Bool
-bit_at owed k = owed / 2 ^ k % 2 == 1
+abbrev pub owed_bit : ℕ → ℕ → Bool
+owed_bit owed k = owed / 2 ^ k % 2 == 1
 
 abbrev pub lowest_bit : ℕ → Option ℕ
 lowest_bit owed = cond (owed == 0) None (Some (count_trailing_zeros 64 owed))
@@ -44,14 +44,14 @@ freed st hole = record { holes = st.holes; owed = st.owed + 2 ^ hole; rows = sli
 -- A bind under a host that refuses the template: 9. Under another it is judged by the bodies of the template's holes.
 abbrev pub judged_by : Meaning → Verdict → State → ℕ → List ℕ → Option Refusal
 judged_by m (refused r) st hole v = Some (unfit r)
-judged_by m (accepted n bodies) st hole v = judge_bind_lem m bodies st.holes (bit_at st.owed hole) hole v
+judged_by m (accepted n bodies) st hole v = judge_bind_lem m bodies st.holes (owed_bit st.owed hole) hole v
 
 -- The judgments of a bind, of a release and of a finish.
 abbrev pub judged_bind : Meaning → List ℕ → State → ℕ → List ℕ → Option Refusal
 judged_bind m t st hole v = judged_by m (verdict m t) st hole v
 
 abbrev pub judged_release : State → ℕ → Option Refusal
-judged_release st hole = judge_release_lem st.holes (bit_at st.owed hole) hole
+judged_release st hole = judge_release_lem st.holes (owed_bit st.owed hole) hole
 
 abbrev pub judged_finish : ℕ → ℕ → Result ℕ Refusal
 judged_finish holes owed = judge_finish_lem holes (lowest_bit owed)

@@ -3,7 +3,7 @@ ghost use Rattle.std.specs.Prelude.{◌≡◌, None};
 ghost use Rattle.std.specs.List.{prefix_len};
 ghost use Rattle.template.specs.Judging.{verdict};
 ghost use Rattle.printer.specs.Calls.{state_of, refusal_in, bodies_of, surveyed_of, fitting_host};
-ghost use Rattle.printer.specs.Held.{Tracks, TracksUnder, bit_at, filled, freed, judged_bind, judged_release};
+ghost use Rattle.printer.specs.Held.{Tracks, TracksUnder, owed_bit, filled, freed, judged_bind, judged_release};
 ghost use Rattle.printer.specs.Rows.{value_at};
 ghost use Rattle.printer.specs.Slate.{spells, settled, judge_bind_lem, judge_release_lem, verdict_bind, verdict_release, bound, released};
 
@@ -43,7 +43,7 @@ impl Filling<'_> {
         hole: usize,
         value: &[u8],
     ) -> Result<(), Fault>
-        ensures { refusal_in result ≡ judge_bind_lem (H.meaning host.now) (bodies_of survey.now) self.now.holes (bit_at self.now.owed hole) hole value.now }
+        ensures { refusal_in result ≡ judge_bind_lem (H.meaning host.now) (bodies_of survey.now) self.now.holes (owed_bit self.now.owed hole) hole value.now }
     {
         if hole >= self.holes {
             return Err(Fault::NoSuchHole { hole });
@@ -63,7 +63,7 @@ impl Filling<'_> {
 
     // Whether a hole may be released: 10 and 14.
     fn judge_release(&self, hole: usize) -> Result<(), Fault>
-        ensures { refusal_in result ≡ judge_release_lem self.now.holes (bit_at self.now.owed hole) hole }
+        ensures { refusal_in result ≡ judge_release_lem self.now.holes (owed_bit self.now.owed hole) hole }
     {
         if hole >= self.holes {
             return Err(Fault::NoSuchHole { hole });
@@ -100,7 +100,7 @@ impl Filling<'_> {
         hole: usize,
         value: &[u8],
     ) -> Result<(), Fault>
-        ensures told { refusal_in result ≡ judge_bind_lem (H.meaning sheet.old.host) (bodies_of survey.now) self.old.holes (bit_at self.old.owed hole) hole value.now }
+        ensures told { refusal_in result ≡ judge_bind_lem (H.meaning sheet.old.host) (bodies_of survey.now) self.old.holes (owed_bit self.old.owed hole) hole value.now }
         ensures state { state_of self.new sheet.new.table ≡ settled (refusal_in result) (filled (state_of self.old sheet.old.table) hole value.now) (state_of self.old sheet.old.table) }
         ensures host { sheet.new.host ≡ sheet.old.host }
         ensures template { self.new.template ≡ self.old.template }

@@ -1,7 +1,7 @@
 // The filling of a template: which of its holes are owed.
 ghost use Rattle.std.specs.Prelude.{◌≡◌, ℕ, ◌+◌, ◌-◌, ◌^◌, ◌<◌, ◌≤◌, true, false, length, Ok, count_ones};
 ghost use Rattle.fault.specs.Refusal.{told};
-ghost use Rattle.printer.specs.Held.{Marks, bit_at, lowest_bit, judged_finish};
+ghost use Rattle.printer.specs.Held.{Marks, owed_bit, lowest_bit, judged_finish};
 ghost use Rattle.printer.specs.Slate.{Slate, owed_at, how_many, lowest, judge_finish_lem};
 
 use crate::finished::Finished;
@@ -48,7 +48,7 @@ impl<'t> Filling<'t> {
 
     pub(crate) fn owes(&self, hole: usize) -> bool
         requires { hole < self.now.holes }
-        ensures { result ≡ bit_at self.now.owed hole }
+        ensures { result ≡ owed_bit self.now.owed hole }
     {
         (self.owed >> hole) & 1 == 1
     }
@@ -57,7 +57,7 @@ impl<'t> Filling<'t> {
     #[tactic(auto, using(crate::proofs::Flips::cleared, crate::proofs::Flips::cleared_within))]
     pub(crate) fn settle(&mut self, hole: usize)
         requires within { hole < self.old.holes }
-        requires owes { bit_at self.old.owed hole ≡ true }
+        requires owes { owed_bit self.old.owed hole ≡ true }
         ensures owed { self.new.owed ≡ self.old.owed - 2 ^ hole }
         ensures holes { self.new.holes ≡ self.old.holes }
         ensures template { self.new.template ≡ self.old.template }
@@ -69,7 +69,7 @@ impl<'t> Filling<'t> {
     #[tactic(auto, using(crate::proofs::Flips::raised, crate::proofs::Flips::raised_within))]
     pub(crate) fn reopen(&mut self, hole: usize)
         requires within { hole < self.old.holes }
-        requires settled { bit_at self.old.owed hole ≡ false }
+        requires settled { owed_bit self.old.owed hole ≡ false }
         ensures owed { self.new.owed ≡ self.old.owed + 2 ^ hole }
         ensures holes { self.new.holes ≡ self.old.holes }
         ensures template { self.new.template ≡ self.old.template }
