@@ -1,5 +1,5 @@
 -- What the code's lines, answers and outcomes say.
-use Rattle.std.specs.Prelude.{◌≡◌, ℕ, ◌<◌, List, ◌++◌, map, Some, None, Ok, Err, Option, Result}
+use Rattle.std.specs.Prelude.{◌≡◌, ℕ, ◌<◌, ◌≤◌, List, ◌++◌, map, Some, None, Ok, Err, Option, Result}
 use Rattle.std.specs.Option.{option_map}
 use Rattle.host.specs.Meaning.{Meaning}
 use Rattle.fault.specs.declared.failure.Failure.{Failure}
@@ -67,6 +67,11 @@ abbrev pub LackedRoom : {A : Type 0} → Result A (Failure Fault) → ℕ → �
 LackedRoom (Ok x) had needed = Unit {0}
 LackedRoom (Err (Refused f)) had needed = Unit {0}
 LackedRoom (Err NoMemory) had needed = had < needed
+
+-- The vector has the room that it had, where the call is refused or lacks memory, and else no less.
+abbrev pub KeptRoom : {A : Type 0} → Result A (Failure Fault) → ℕ → ℕ → Type 0
+KeptRoom (Ok x) had has = had ≤ has
+KeptRoom (Err u) had has = has ≡ had
 
 -- Everything is as it was found, where the call is refused or lacks memory.
 pub record AsFound {A : Type 0} (r : Result A (Failure Fault)) (rows rows' : List Row) (answers answers' : List Answer) (old new : List ℕ) : Type 0 where

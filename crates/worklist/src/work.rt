@@ -6,7 +6,7 @@ ghost use Rattle.printer.specs.Calls.{state_of, bodies_of};
 ghost use Rattle.printer.specs.Held.{Tracks, judged_finish};
 ghost use Rattle.printer.specs.Passes.{walked};
 ghost use Rattle.printer.specs.Rows.{value_at};
-ghost use Rattle.worklist.specs.Calls.{order_of, reply_of, print_of, GoneDown, AddsKept, print_after, output_after, refusal_by, verdict_refusal, LackedRoom, AsFound};
+ghost use Rattle.worklist.specs.Calls.{order_of, reply_of, print_of, GoneDown, AddsKept, print_after, output_after, refusal_by, verdict_refusal, LackedRoom, KeptRoom, AsFound};
 ghost use Rattle.worklist.specs.Lines.{answer, next};
 
 use crate::line::{Answer, Line};
@@ -54,6 +54,7 @@ fn follow_all<H: Host>(
 )
     requires { vec_len answers.old + length lines.now ≤ vec_capacity answers.old }
     ensures slate { GoneDown (H.meaning sheet.old.host) (bodies_of survey.now) (state_of filling.old sheet.old.table) (state_of filling.new sheet.new.table) answers.old.items answers.new.items lines.now }
+    ensures room { vec_capacity answers.new ≡ vec_capacity answers.old }
     ensures host { sheet.new.host ≡ sheet.old.host }
     ensures template { filling.new.template ≡ filling.old.template }
 {
@@ -90,6 +91,7 @@ pub fn work<H: Host>(
     ensures kept { IfOk result (λ w. AddsKept (H.meaning sheet.old.host) raw.entry.template.now lines.now answers.old.items answers.new.items sheet.new.table.rows w out.old out.new) }
     ensures refused { refusal_by result ≡ verdict_refusal (verdict (H.meaning sheet.old.host) raw.entry.template.now) }
     ensures memory { LackedRoom result (vec_capacity answers.old) (vec_len answers.old + length lines.now) }
+    ensures room { KeptRoom result (vec_capacity answers.old) (vec_capacity answers.new) }
     ensures found { AsFound result sheet.old.table.rows sheet.new.table.rows answers.old.items answers.new.items out.old out.new }
     ensures host { sheet.new.host ≡ sheet.old.host }
 {

@@ -10,4 +10,5 @@ loop-line-preserved g c =
       search rules,
       search rules,
       search rules,
+      search rules,
     )

@@ -11,3 +11,4 @@ invariant-loop-line g l =
     × (vec_len l.answers + length l.lines ≤ vec_capacity l.answers + l.line-index)
     × (l.sheet.host ≡ s.host)
     × (l.filling.template ≡ f.template)
+    × (vec_capacity l.answers ≡ vec_capacity l.initial.answers)
