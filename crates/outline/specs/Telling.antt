@@ -11,8 +11,8 @@ abbrev pub Takes : Verdict → Type 0
 Takes (refused r) = ⊥
 Takes (accepted n bodies) = Unit {0}
 
--- The template is accepted and the answer has P, or the flaw is the verdict's, or memory ran out, which says nothing.
+-- The host takes the template and the answer has P, or it does not and the flaw is the verdict's; memory runs out only over a template that it takes.
 abbrev pub Tells : {A : Type 0} → Result A (Failure Flaw) → Verdict → (A → Type 0) → Type 0
 Tells (Ok x) v P = Takes v × P x
 Tells (Err (Refused f)) v P = v ≡ refused (flaw_of f)
-Tells (Err NoMemory) v P = Unit {0}
+Tells (Err NoMemory) v P = Takes v

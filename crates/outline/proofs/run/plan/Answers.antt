@@ -56,7 +56,7 @@ loop-read-preserved g c =
 told : {A : Type 0} (P Q : A → Type 0) → ((x : A) → P x → Q x) → (r : Result A (Failure Flaw)) (v : Verdict) → Tells r v P → Tells r v Q
 told P Q f (Ok x) v e = (e.0, f x e.1)
 told P Q f (Err (Refused flaw)) v e = e
-told P Q f (Err NoMemory) v e = tt
+told P Q f (Err NoMemory) v e = e
 
 pub returns : goal.returns
 returns g c =
