@@ -16,7 +16,8 @@ pub enum Under {
     Csv,
 }
 
-// It is the host that it names.
+// It is the host that it names. Each function asks that host by a match: a function may not hand out a `dyn Host` by which one
+// place could ask them all.
 impl Host for Under {
     ghost meaning = { meaning_under };
 
