@@ -41,7 +41,12 @@ mod ffi {
         ($check:ident, $list:ident, $merge:ident) => {
             extern "C" {
                 pub fn $check(template: *const u8, template_len: usize) -> Checked;
-                pub fn $list(text: *const u8, text_len: usize, out: *mut u8, out_len: usize) -> Listed;
+                pub fn $list(
+                    text: *const u8,
+                    text_len: usize,
+                    out: *mut u8,
+                    out_len: usize,
+                ) -> Listed;
                 pub fn $merge(
                     template: *const u8,
                     template_len: usize,
@@ -55,7 +60,11 @@ mod ffi {
         };
     }
 
-    declared!(gabirong_shell_check, gabirong_shell_list, gabirong_shell_merge);
+    declared!(
+        gabirong_shell_check,
+        gabirong_shell_list,
+        gabirong_shell_merge
+    );
     declared!(gabirong_sql_check, gabirong_sql_list, gabirong_sql_merge);
     declared!(gabirong_csv_check, gabirong_csv_list, gabirong_csv_merge);
 }
@@ -82,7 +91,11 @@ pub struct Refusal {
 impl fmt::Display for Refusal {
     fn fmt(&self, f: &mut fmt::Formatter<'_>) -> fmt::Result {
         match self.hole {
-            Some(hole) => write!(f, "refused {} hole {hole} place {}", self.number, self.place),
+            Some(hole) => write!(
+                f,
+                "refused {} hole {hole} place {}",
+                self.number, self.place
+            ),
             None => write!(f, "refused {} place {}", self.number, self.place),
         }
     }

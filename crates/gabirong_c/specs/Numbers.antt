@@ -1,27 +1,15 @@
 -- Answers in plain numbers.
-use Rattle.std.specs.Prelude.{ℕ, Bool, true, false, List, is_some, Some, None, Ok, Err, Option, Result}
-use Rattle.fault.specs.Refusal.{Report}
+use Rattle.std.specs.Prelude.{ℕ, true, false, List, is_some, Some, None, Ok, Err, Option, Result}
+use Rattle.std.specs.Option.{option_map_or}
 use Rattle.fault.specs.Refusal as fault
 use Rattle.gabirong_c.specs.declared.numbers.Refusal.{Refusal}
 use Rattle.gabirong_c.specs.declared.numbers.Checked.{Checked}
 use Rattle.gabirong_c.specs.declared.numbers.Listed.{Listed}
 use Rattle.gabirong_c.specs.declared.numbers.Merged.{Merged}
 
-abbrev pub or_zero : Option ℕ → ℕ
-or_zero None = 0
-or_zero (Some k) = k
-
-abbrev pub number_of : Option Report → ℕ
-number_of None = 0
-number_of (Some r) = r.number
-
-abbrev pub place_of : Option Report → ℕ
-place_of None = 0
-place_of (Some r) = r.place
-
 -- A refusal: the hole is 0 where none is named, and so are number and place of what is carried where nothing is.
 abbrev pub in_numbers : fault.Refusal → Refusal
-in_numbers r = record { number = r.number; names_hole = is_some r.hole; hole = or_zero r.hole; place = r.place; carried = number_of r.carried; carried_place = place_of r.carried }
+in_numbers r = record { number = r.number; names_hole = is_some r.hole; hole = option_map_or (λ k. k) r.hole 0; place = r.place; carried = option_map_or (λ f. f.number) r.carried 0; carried_place = option_map_or (λ f. f.place) r.carried 0 }
 
 -- No refusal has number 0.
 abbrev pub no_refusal : Refusal

@@ -1,5 +1,6 @@
 // The boundary to C: check, merge and list under each host, with answers in plain numbers. A slice comes as a pointer and a
-// length.
+// length. C has no generics, and a macro may write no function, so each host has its three by name; each makes one call of those
+// below.
 #![tactic(auto)]
 
 ghost use Rattle.std.specs.Prelude.{◌≡◌, length};

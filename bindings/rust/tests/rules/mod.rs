@@ -130,6 +130,20 @@ struct Recipe {
     closer: &'static [u8],
 }
 
+/// A hole whose value stands between two quotes.
+const fn around(quote: &'static [u8], body: usize) -> Option<Recipe> {
+    Some(Recipe {
+        opener: quote,
+        body,
+        closer: quote,
+    })
+}
+
+/// A hole whose value stands as it is, in the context of the hole.
+const fn within(body: usize) -> Option<Recipe> {
+    around(b"", body)
+}
+
 enum Place {
     Itself,
     Fixed(u8),
@@ -222,11 +236,7 @@ pub static SHELL: Host = Host {
                 Rule(SHELL_PLAIN, KEEP, 1),
             ],
             end: Some(NOTHING),
-            hole: Some(Recipe {
-                opener: b"'",
-                body: 4,
-                closer: b"'",
-            }),
+            hole: around(b"'", 4),
             spellings: &[],
         },
         Context {
@@ -240,11 +250,7 @@ pub static SHELL: Host = Host {
                 Rule(Class::Of(&[(b'#', b'#')]), KEEP, 1),
             ],
             end: Some(close(1)),
-            hole: Some(Recipe {
-                opener: b"'",
-                body: 4,
-                closer: b"'",
-            }),
+            hole: around(b"'", 4),
             spellings: &[],
         },
         Context {
@@ -265,11 +271,7 @@ pub static SHELL: Host = Host {
                 Rule(Class::But(&[ZERO, QUOTE]), KEEP, 4),
             ],
             end: None,
-            hole: Some(Recipe {
-                opener: b"",
-                body: 4,
-                closer: b"",
-            }),
+            hole: within(4),
             spellings: &[
                 (Class::Of(&[QUOTE]), &[Itself, Fixed(b'\\'), Itself, Itself]),
                 (Class::But(&[ZERO, QUOTE]), &[Itself]),
@@ -286,11 +288,7 @@ pub static SHELL: Host = Host {
                 ),
             ],
             end: None,
-            hole: Some(Recipe {
-                opener: b"",
-                body: 5,
-                closer: b"",
-            }),
+            hole: within(5),
             spellings: &[
                 (
                     Class::Of(&[DOLLAR, BACKQUOTE, DOUBLE, BACKSLASH]),
@@ -327,11 +325,7 @@ pub static SQL: Host = Host {
                 Rule(SQL_SIGN, keep_alone(3), 0),
             ],
             end: Some(NOTHING),
-            hole: Some(Recipe {
-                opener: b"'",
-                body: 2,
-                closer: b"'",
-            }),
+            hole: around(b"'", 2),
             spellings: &[],
         },
         Context {
@@ -350,11 +344,7 @@ pub static SQL: Host = Host {
                 Rule(Class::But(&[ZERO, QUOTE]), KEEP, 2),
             ],
             end: None,
-            hole: Some(Recipe {
-                opener: b"",
-                body: 2,
-                closer: b"",
-            }),
+            hole: within(2),
             spellings: &[
                 (Class::Of(&[QUOTE]), &[Itself, Itself]),
                 (Class::But(&[ZERO, QUOTE]), &[Itself]),
@@ -392,31 +382,19 @@ pub static CSV: Host = Host {
         Context {
             rules: FIELD_START,
             end: Some(NOTHING),
-            hole: Some(Recipe {
-                opener: b"\"",
-                body: 3,
-                closer: b"\"",
-            }),
+            hole: around(b"\"", 3),
             spellings: &[],
         },
         Context {
             rules: FIELD_START,
             end: Some(close_both(1, 2)),
-            hole: Some(Recipe {
-                opener: b"\"",
-                body: 3,
-                closer: b"\"",
-            }),
+            hole: around(b"\"", 3),
             spellings: &[],
         },
         Context {
             rules: &[Rule(TEXTDATA, KEEP, 2), COMMA, RETURN],
             end: Some(close_both(1, 2)),
-            hole: Some(Recipe {
-                opener: b"",
-                body: 2,
-                closer: b"",
-            }),
+            hole: within(2),
             spellings: &[(TEXTDATA, &[Itself])],
         },
         Context {
@@ -425,11 +403,7 @@ pub static CSV: Host = Host {
                 Rule(IN_QUOTES, KEEP, 3),
             ],
             end: None,
-            hole: Some(Recipe {
-                opener: b"",
-                body: 3,
-                closer: b"",
-            }),
+            hole: within(3),
             spellings: &[
                 (Class::Of(&[DOUBLE]), &[Itself, Itself]),
                 (IN_QUOTES, &[Itself]),
