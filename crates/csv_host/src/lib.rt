@@ -29,6 +29,7 @@ impl Host for Csv {
 
     ghost sound = { λ h. Sound.sound rows refl };
 
+    #[inline(always)]
     fn step(&self, context: u8, byte: u8) -> Result<Move, Refused> {
         match Context::try_from(context)? {
             Context::RowStart | Context::FieldStart => at_field_start(byte),
@@ -62,6 +63,7 @@ impl Host for Csv {
         }
     }
 
+    #[inline(always)]
     fn spelling(&self, body: u8, byte: u8) -> Spelling {
         match Context::try_from(body) {
             Ok(Context::Bare) => bare_spelling(byte),

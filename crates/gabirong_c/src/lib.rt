@@ -18,9 +18,7 @@ mod numbers;
 
 use csv_host::Csv;
 use host::Host;
-use merge::merge;
 use numbers::{Checked, Listed, Merged};
-use printer::sheet::Sheet;
 use reading::list;
 use shell::Shell;
 use sql::Sql;
@@ -40,18 +38,17 @@ fn list_under<H: Host>(host: &H, text: &[u8], out: &mut [u8]) -> Listed
     list(host, text, out).into()
 }
 
-fn merge_under<H: Host + Drop>(
-    host: H,
+fn merge_under<H: Host>(
+    host: &H,
     template: &[u8],
     input: &[u8],
     place: usize,
     out: &mut [u8],
 ) -> Merged
-    ensures answer { result ≡ merged_in_numbers (weighed (merged (H.meaning host) template.now input.now place (length out.old))) }
-    ensures output { out.new ≡ written out.old (merged (H.meaning host) template.now input.now place (length out.old)) }
+    ensures answer { result ≡ merged_in_numbers (weighed (merged (H.meaning host.now) template.now input.now place (length out.old))) }
+    ensures output { out.new ≡ written out.old (merged (H.meaning host.now) template.now input.now place (length out.old)) }
 {
-    let mut sheet = Sheet::new(host);
-    merge(Raw::new(template), &mut sheet, input, place, out).into()
+    merge::merge_under(Raw::new(template), host, input, place, out).into()
 }
 
 #[unsafe(no_mangle)]
@@ -109,7 +106,7 @@ pub extern "C" fn gabirong_shell_merge(
     ensures answer { result ≡ merged_in_numbers (weighed (merged shell template.now input.now place (length out.old))) }
     ensures output { out.new ≡ written out.old (merged shell template.now input.now place (length out.old)) }
 {
-    merge_under(Shell, template, input, place, out)
+    merge_under(&Shell, template, input, place, out)
 }
 
 #[unsafe(no_mangle)]
@@ -122,7 +119,7 @@ pub extern "C" fn gabirong_sql_merge(
     ensures answer { result ≡ merged_in_numbers (weighed (merged sql template.now input.now place (length out.old))) }
     ensures output { out.new ≡ written out.old (merged sql template.now input.now place (length out.old)) }
 {
-    merge_under(Sql, template, input, place, out)
+    merge_under(&Sql, template, input, place, out)
 }
 
 #[unsafe(no_mangle)]
@@ -135,5 +132,5 @@ pub extern "C" fn gabirong_csv_merge(
     ensures answer { result ≡ merged_in_numbers (weighed (merged csv template.now input.now place (length out.old))) }
     ensures output { out.new ≡ written out.old (merged csv template.now input.now place (length out.old)) }
 {
-    merge_under(Csv, template, input, place, out)
+    merge_under(&Csv, template, input, place, out)
 }

@@ -4,7 +4,7 @@
 ghost use Rattle.std.specs.Prelude.{◌≡◌, length, take};
 ghost use Rattle.template.specs.Judging.{verdict, survey_of};
 ghost use Rattle.template.specs.Lexing.{lexed_from};
-ghost use Rattle.printer.specs.Calls.{state_of};
+ghost use Rattle.printer.specs.Calls.{borrowed_state};
 ghost use Rattle.printer.specs.Rows.{blank};
 ghost use Rattle.merge.specs.Answers.{merged_of, completed_of, weighed, weighed_one, written, laid_over, came_to, source_pairs, bind_pieces};
 ghost use Rattle.merge.specs.Law.{ReadsAsRecord, WhereMerged};
@@ -16,8 +16,9 @@ mod source;
 use fault::Fault;
 use host::Host;
 use merged::Merged;
+use printer::borrowed::BorrowedTable;
 use printer::filling::Filling;
-use printer::open::open;
+use printer::open::open_borrowed;
 use printer::sheet::Sheet;
 use record::record;
 use record::shape::State;
@@ -30,17 +31,17 @@ use template::raw::Raw;
 use template::survey::Survey;
 
 // Binds each hole of the template, in order, to the record's value of its name.
-// Filling, sheet and survey come one by one, as the printer's calls take them: a struct of the three would be taken apart at each.
-// A loan of a whole struct may write each field, so each call says that the host and the template stay.
-fn bind_all<H: Host>(
+// Filling, table and survey come one by one, as the printer's calls take them: a struct of the three would be taken apart at each.
+// A loan of a whole struct may write each field, so each call says that the template stays.
+fn bind_all<'v, H: Host>(
     template: &[u8],
     filling: &mut Filling<'_>,
-    sheet: &mut Sheet<H>,
+    table: &mut BorrowedTable<'v>,
+    host: &H,
     survey: &Survey,
-    source: &Source<'_>,
+    source: &Source<'v>,
 ) -> Result<(), Fault>
-    ensures came { came_to result (state_of filling.new sheet.new.table) ≡ bind_pieces (H.meaning sheet.old.host) (survey_of survey.now) (source_pairs source.now) source.now.found.now.end (state_of filling.old sheet.old.table) 0 (lexed_from template.now 0) }
-    ensures host { sheet.new.host ≡ sheet.old.host }
+    ensures came { came_to result (borrowed_state filling.new table.new) ≡ bind_pieces (H.meaning host.now) (survey_of survey.now) (source_pairs source.now) source.now.found.now.end (borrowed_state filling.old table.old) 0 (lexed_from template.now 0) }
     ensures template { filling.new.template ≡ filling.old.template }
 {
     let place = source.found.end;
@@ -52,53 +53,54 @@ fn bind_all<H: Host>(
             let value = source
                 .value_of(name)
                 .ok_or(Fault::NameMissing { hole, place })?;
-            filling.bind_surveyed(sheet, survey, hole, value)?;
+            filling.bind_borrowed(table, host, survey, hole, value)?;
             hole += 1;
         }
     }
     Ok(())
 }
 
-// Opens a filling of the template, binds its holes, finishes and prints it.
+// Opens a filling of the template, binds its holes, finishes and prints it. The values stay in the input, where they lie.
 #[tactic(auto, using(crate::proofs::Steps::pieces_bound))]
 fn fill_in<H: Host>(
     checked: Checked<'_>,
     survey: &Survey,
-    sheet: &mut Sheet<H>,
+    host: &H,
     source: &Source<'_>,
     out: &mut [u8],
 ) -> Result<Merged, Fault>
-    requires survey { verdict (H.meaning sheet.old.host) checked.template.now ≡ survey_of survey.now }
+    requires survey { verdict (H.meaning host.now) checked.template.now ≡ survey_of survey.now }
     requires holes { checked.holes ≡ survey.now.bodies.len }
-    ensures answer { completed_of result ≡ weighed_one (with_pairs (H.meaning sheet.old.host) (survey_of survey.now) checked.entry.template.now survey.now.bodies.len (length out.old) (source_pairs source.now) source.now.found.now.end source.now.found.now.next) }
-    ensures text { out.new ≡ laid_over out.old (with_pairs (H.meaning sheet.old.host) (survey_of survey.now) checked.entry.template.now survey.now.bodies.len (length out.old) (source_pairs source.now) source.now.found.now.end source.now.found.now.next) }
-    ensures host { sheet.new.host ≡ sheet.old.host }
+    ensures answer { completed_of result ≡ weighed_one (with_pairs (H.meaning host.now) (survey_of survey.now) checked.entry.template.now survey.now.bodies.len (length out.old) (source_pairs source.now) source.now.found.now.end source.now.found.now.next) }
+    ensures text { out.new ≡ laid_over out.old (with_pairs (H.meaning host.now) (survey_of survey.now) checked.entry.template.now survey.now.bodies.len (length out.old) (source_pairs source.now) source.now.found.now.end source.now.found.now.next) }
 {
     let template = checked.template();
-    let mut filling = open(checked, sheet);
-    bind_all(template, &mut filling, sheet, survey, source)?;
+    let mut table = BorrowedTable::new();
+    let mut filling = open_borrowed(checked, &mut table);
+    bind_all(template, &mut filling, &mut table, host, survey, source)?;
     filling.judge_finish()?;
-    let len = filling.finish().print_surveyed(sheet, out)?;
+    let len = filling.finish().print_borrowed(&table, host, out)?;
     Ok(Merged {
         next: source.found.next,
         len,
     })
 }
 
-// Merges the record at a place of the input, and leaves its values on the sheet.
+// Merges the record at a place of the input into the template, for a caller that has a host and no sheet: the text is written
+// from the start of the output. Where the input ends there, or where it is refused, the output stays as it was.
 #[tactic(auto, using(crate::proofs::Steps::comes_found, crate::proofs::Steps::weighed_some, crate::proofs::Steps::written_some))]
-fn merge_on<H: Host>(
+pub fn merge_under<H: Host>(
     template: Raw<'_>,
-    sheet: &mut Sheet<H>,
+    host: &H,
     input: &[u8],
     place: usize,
     out: &mut [u8],
 ) -> Result<Option<Merged>, Fault>
-    ensures answer { merged_of result ≡ weighed (merged (H.meaning sheet.old.host) template.entry.template.now input.now place (length out.old)) }
-    ensures text { out.new ≡ written out.old (merged (H.meaning sheet.old.host) template.entry.template.now input.now place (length out.old)) }
-    ensures host { sheet.new.host ≡ sheet.old.host }
+    ensures answer { merged_of result ≡ weighed (merged (H.meaning host.now) template.entry.template.now input.now place (length out.old)) }
+    ensures text { out.new ≡ written out.old (merged (H.meaning host.now) template.entry.template.now input.now place (length out.old)) }
+    ensures law { WhereMerged result (λ x. ReadsAsRecord (H.meaning host.now) template.entry.template.now input.now place x.next (take x.len out.new)) }
 {
-    let (checked, survey) = check_and_survey(template, sheet.host())?;
+    let (checked, survey) = check_and_survey(template, host)?;
     let found = record(input, place);
     match found.state {
         State::Found => {
@@ -106,15 +108,14 @@ fn merge_on<H: Host>(
                 input,
                 found: &found,
             };
-            fill_in(checked, &survey, sheet, &source, out).map(Some)
+            fill_in(checked, &survey, host, &source, out).map(Some)
         }
         State::End => Ok(None),
         State::Refused => Err(found.fault),
     }
 }
 
-// Merges the record at a place of the input into the template: the text is written from the start of the output. Where
-// the input ends there, or where it is refused, the output stays as it was. The sheet is cleared at the end in any case.
+// Merges likewise under the host of a sheet, and clears the sheet at the end in any case.
 pub fn merge<H: Host>(
     template: Raw<'_>,
     sheet: &mut Sheet<H>,
@@ -128,7 +129,7 @@ pub fn merge<H: Host>(
     ensures host { sheet.new.host ≡ sheet.old.host }
     ensures law { WhereMerged result (λ x. ReadsAsRecord (H.meaning sheet.old.host) template.entry.template.now input.now place x.next (take x.len out.new)) }
 {
-    let answer = merge_on(template, sheet, input, place, out);
+    let answer = merge_under(template, sheet.host(), input, place, out);
     sheet.clear();
     answer
 }

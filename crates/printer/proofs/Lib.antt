@@ -9,3 +9,4 @@ pub mod Texts
 pub mod Turned
 pub mod Bound
 pub mod Surveyed
+pub mod LaidOut

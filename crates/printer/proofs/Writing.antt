@@ -1,5 +1,5 @@
 -- A text that is written piece by piece.
-use Rattle.std.proofs.Common.{◌≡◌, ℕ, zero, suc, ◌+◌, ◌-◌, ◌<◌, ◌≤◌, List, [], ◌∷◌, ◌++◌, length, get_or, take, drop, min, Some, Ok, Err, Result, sym, refl, ap, ◌∙◌, append_assoc, arith, length-append}
+use Rattle.std.proofs.Common.{◌≡◌, ℕ, zero, suc, ◌+◌, ◌-◌, ◌<◌, ◌≤◌, List, [], ◌∷◌, ◌++◌, length, get_or, set, take, drop, min, Some, Ok, Err, Result, sym, refl, ap, ◌∙◌, append_assoc, arith, length-append}
 use Rattle.fault.specs.Refusal.{Refusal}
 use Rattle.printer.specs.Passes.{and_then, spelt_out, prints, fitting, overlaid, onward, framed}
 use Rattle.template.proofs.Read.{reads_literal, reads_hole}
@@ -77,6 +77,12 @@ overlaid_none : (old : List ℕ) (at : ℕ) → overlaid old at [] ≡ old
 overlaid_none [] at = refl
 overlaid_none (b ∷ bs) zero = refl
 overlaid_none (b ∷ bs) (suc at) = ap (λ l. b ∷ l) (overlaid_none bs at)
+
+-- one byte
+pub overlaid_byte : (old : List ℕ) (at b : ℕ) → at < length old → set old at b ≡ overlaid old at (b ∷ [])
+overlaid_byte [] at b h = absurd (omega arith)
+overlaid_byte (x ∷ xs) zero b h = ap (λ l. b ∷ l) (sym (overlaid_none xs zero))
+overlaid_byte (x ∷ xs) (suc at) b h = ap (λ l. x ∷ l) (overlaid_byte xs at b (omega arith))
 
 pub onward_none : (at : ℕ) (out : List ℕ) → onward at out (Ok []) ≡ Ok (at, out)
 onward_none at out = rw (overlaid_none out at) (ap (λ n. Ok (n, out)) (omega arith))

@@ -5,13 +5,19 @@ use Rattle.fault.specs.Refusal.{Refusal, refusal_of, unfit}
 use Rattle.host.specs.Answers.{bytes_of}
 use Rattle.template.specs.declared.survey.Survey.{Survey}
 use Rattle.template.specs.Judging.{Verdict, refused, accepted}
+use Rattle.printer.specs.declared.borrowed.BorrowedTable.{BorrowedTable}
 use Rattle.printer.specs.declared.filling.Filling.{Filling}
 use Rattle.printer.specs.declared.table.Table.{Table}
+use Rattle.printer.specs.Borrowed.{rows_in}
 use Rattle.printer.specs.Held.{State}
 
 -- The state that a filling and the table of its sheet have.
 abbrev pub state_of : Filling → Table → State
 state_of f t = record { holes = f.holes; owed = f.owed; rows = t.rows }
+
+-- The same with a table that borrows the values.
+abbrev pub borrowed_state : Filling → BorrowedTable → State
+borrowed_state f t = record { holes = f.holes; owed = f.owed; rows = rows_in t.rows }
 
 -- The refusal of a call, None where it is taken.
 abbrev pub refusal_in : {A : Type 0} → Result A Fault → Option Refusal

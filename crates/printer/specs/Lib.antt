@@ -5,3 +5,4 @@ pub mod Calls
 pub mod Printing
 pub mod Passes
 pub mod Promise
+pub mod Borrowed

@@ -2,11 +2,12 @@
 ghost use Rattle.std.specs.Prelude.{◌≡◌, None};
 ghost use Rattle.std.specs.List.{prefix_len};
 ghost use Rattle.template.specs.Judging.{verdict};
-ghost use Rattle.printer.specs.Calls.{state_of, refusal_in, bodies_of, surveyed_of, fitting_host};
+ghost use Rattle.printer.specs.Calls.{state_of, borrowed_state, refusal_in, bodies_of, surveyed_of, fitting_host};
 ghost use Rattle.printer.specs.Held.{Tracks, TracksUnder, owed_bit, filled, freed, judged_bind, judged_release};
 ghost use Rattle.printer.specs.Rows.{value_at};
 ghost use Rattle.printer.specs.Slate.{spells, settled, judge_bind_lem, judge_release_lem, verdict_bind, verdict_release, bound, released};
 
+use crate::borrowed::BorrowedTable;
 use crate::filling::Filling;
 use crate::sheet::Sheet;
 use fault::Fault;
@@ -110,6 +111,25 @@ impl Filling<'_> {
         self.judge_bind(&sheet.host, survey, hole, value)?;
         self.settle(hole);
         sheet.table.store(hole, value);
+        Ok(())
+    }
+
+    // The same on a table that borrows the value.
+    pub fn bind_borrowed<'v, H: Host>(
+        &mut self,
+        table: &mut BorrowedTable<'v>,
+        host: &H,
+        survey: &Survey,
+        hole: usize,
+        value: &'v [u8],
+    ) -> Result<(), Fault>
+        ensures told { refusal_in result ≡ judge_bind_lem (H.meaning host.now) (bodies_of survey.now) self.old.holes (owed_bit self.old.owed hole) hole value.now }
+        ensures state { borrowed_state self.new table.new ≡ settled (refusal_in result) (filled (borrowed_state self.old table.old) hole value.now) (borrowed_state self.old table.old) }
+        ensures template { self.new.template ≡ self.old.template }
+    {
+        self.judge_bind(host, survey, hole, value)?;
+        self.settle(hole);
+        table.store(hole, value);
         Ok(())
     }
 

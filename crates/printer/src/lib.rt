@@ -2,6 +2,7 @@
 #![tactic(auto)]
 
 pub mod bind;
+pub mod borrowed;
 pub mod filling;
 pub mod finished;
 pub mod open;
@@ -9,5 +10,6 @@ mod page;
 pub mod print;
 pub mod promise;
 pub mod row;
+pub mod rows;
 pub mod sheet;
 pub mod table;

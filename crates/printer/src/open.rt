@@ -1,9 +1,10 @@
 // Opening a filling of a checked template.
 ghost use Rattle.std.specs.Prelude.{◌≡◌};
-ghost use Rattle.printer.specs.Calls.{state_of};
+ghost use Rattle.printer.specs.Calls.{state_of, borrowed_state};
 ghost use Rattle.printer.specs.Held.{Holds, opened};
 ghost use Rattle.printer.specs.Slate.{fresh};
 
+use crate::borrowed::BorrowedTable;
 use crate::filling::Filling;
 use crate::sheet::Sheet;
 use host::Host;
@@ -19,5 +20,16 @@ pub fn open<'t, H: Host>(checked: Checked<'t>, sheet: &mut Sheet<H>) -> Filling<
     let template = checked.template();
     let holes = checked.holes();
     sheet.clear();
+    Filling::new(template, holes)
+}
+
+// The same on a table that borrows the values.
+pub fn open_borrowed<'t>(checked: Checked<'t>, table: &mut BorrowedTable<'_>) -> Filling<'t>
+    ensures template { result.template.now ≡ checked.entry.template.now }
+    ensures state { borrowed_state result table.new ≡ opened checked.entry.holes }
+{
+    let template = checked.template();
+    let holes = checked.holes();
+    table.clear();
     Filling::new(template, holes)
 }

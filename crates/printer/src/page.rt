@@ -1,5 +1,5 @@
 // How far a text has come, and how it is written.
-ghost use Rattle.std.specs.Prelude.{◌≡◌, ◌+◌, ◌*◌, ◌^◌, ◌<◌, ◌≤◌, length};
+ghost use Rattle.std.specs.Prelude.{◌≡◌, ◌+◌, ◌*◌, ◌^◌, ◌<◌, ◌≤◌, [], ◌∷◌, length};
 ghost use Rattle.host.specs.Answers.{brackets_of};
 ghost use Rattle.fault.specs.Refusal.{told};
 ghost use Rattle.printer.specs.Passes.{spelt_out, overlaid, framed, onward};
@@ -18,6 +18,19 @@ pub struct Page {
 }
 
 impl Page {
+    // Adds a byte, and writes it if the output has a place for it.
+    #[tactic(auto, using(crate::proofs::Writing::overlaid_byte, crate::proofs::Writing::overlaid_past))]
+    pub fn push(&mut self, byte: u8, out: &mut [u8])
+        requires { self.old.end < 2 ^ 32 }
+        ensures end { self.new.end ≡ self.old.end + 1 }
+        ensures output { out.new ≡ overlaid out.old self.old.end (byte ∷ []) }
+    {
+        if self.end < out.len() {
+            out[self.end] = byte;
+        }
+        self.end += 1;
+    }
+
     // Adds bytes, and writes as many of them as the output has places for.
     #[tactic(auto, using(crate::proofs::Writing::overlaid_copy, crate::proofs::Writing::overlaid_past))]
     pub fn put(&mut self, bytes: &[u8], out: &mut [u8])

@@ -14,6 +14,7 @@ pub struct Cursor {
 
 impl Cursor {
     // Ends the open token, if there is a closing: its kind and its length go before its bytes.
+    #[inline(always)]
     fn close(&mut self, kind: Option<u8>, out: &mut [u8])
         requires { self.old.at < 2 ^ 33 }
         ensures cursor { self.new ≡ close_cursor kind self.old }
@@ -29,6 +30,7 @@ impl Cursor {
     }
 
     // Does what an effect says: a closing, a middle and a closing.
+    #[inline(always)]
     pub fn apply(&mut self, effect: Effect, out: &mut [u8])
         requires at { self.old.at < 2 ^ 32 }
         requires held { self.old.held < 65535 }
@@ -45,6 +47,7 @@ impl Cursor {
 }
 
 // Writes a byte at a place, if the output has it.
+#[inline(always)]
 fn put(out: &mut [u8], place: usize, byte: u8)
     ensures { out.new ≡ slice_set out.old place byte }
 {

@@ -30,6 +30,7 @@ impl Host for Shell {
 
     ghost sound = { λ h. Sound.sound rows refl };
 
+    #[inline(always)]
     fn step(&self, context: u8, byte: u8) -> Result<Move, Refused> {
         match Context::try_from(context)? {
             Context::Gap => at_gap(byte),
@@ -62,6 +63,7 @@ impl Host for Shell {
         }
     }
 
+    #[inline(always)]
     fn spelling(&self, body: u8, byte: u8) -> Spelling {
         match Context::try_from(body) {
             Ok(Context::SingleQuoted) => single_quoted_spelling(byte),

@@ -38,6 +38,7 @@ impl<'t> Iterator for Items<'t> {
 
     ghost remaining = { λ s. at_most (length s.template.now - s.at) };
 
+    #[inline(always)]
     fn next(&mut self) -> Option<Result<Placed<'t>, Flaw>> {
         let place = self.at;
         match item_at(self.template, place) {

@@ -1,13 +1,13 @@
 use Rattle.std.proofs.Common.{◌≡◌, ◌≤◌, length}
 use Rattle.template.specs.Judging.{survey_of}
 use Rattle.template.specs.Lexing.{lexed_from}
-use Rattle.printer.specs.Calls.{state_of}
+use Rattle.printer.specs.Calls.{borrowed_state}
 use Rattle.merge.specs.Answers.{source_pairs, bind_pieces}
 use Rattle.merge.proofs.bind_all.Given as goal
 
 abbrev pub invariant-loop-read : goal.invariant-loop-read
 invariant-loop-read g l =
-    let m = g.H.Host.meaning l.initial.sheet.host in
+    let m = g.H.Host.meaning l.host in
     let d = survey_of l.survey in
     let ps = source_pairs l.source in
     let end = l.source.found.now.end in
@@ -17,6 +17,5 @@ invariant-loop-read g l =
     × (l.read-iterator.template.now ≡ l.template)
     × (at ≤ length l.template)
     × (l.hole ≤ at)
-    × (l.sheet.host ≡ l.initial.sheet.host)
     × (l.filling.template ≡ l.initial.filling.template)
-    × (bind_pieces m d ps end (state_of l.initial.filling l.initial.sheet.table) 0 (lexed_from l.template 0) ≡ bind_pieces m d ps end (state_of l.filling l.sheet.table) l.hole (lexed_from l.template at))
+    × (bind_pieces m d ps end (borrowed_state l.initial.filling l.initial.table) 0 (lexed_from l.template 0) ≡ bind_pieces m d ps end (borrowed_state l.filling l.table) l.hole (lexed_from l.template at))

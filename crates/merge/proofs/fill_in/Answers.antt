@@ -2,15 +2,16 @@ use Rattle.std.proofs.Common.{◌≡◌, Err, length, arith, rules}
 use Rattle.fault.specs.Refusal.{refusal_of}
 use Rattle.printer.specs.Passes.{walked}
 use Rattle.printer.specs.Printing.{printed, weight}
+use Rattle.printer.specs.Borrowed.{rows_in}
 use Rattle.printer.specs.Rows.{value_at}
 use Rattle.merge.proofs.Steps.{pieces_bound, unprinted}
 use Rattle.merge.proofs.fill_in.Goals as goal
 
 pub returns-in_err-len : goal.returns-in_err-len
 returns-in_err-len g c =
-    let m = g.H.Host.meaning c.args.sheet.now.host in
+    let m = g.H.Host.meaning c.args.host.now in
     let t = c.args.checked.template.now in
-    let v = value_at c.bind_all.new.sheet.table.rows in
+    let v = value_at (rows_in c.bind_all.new.table.rows) in
     let room = length c.args.out.now in
     let q = refusal_of c.in_err-len.field-0.0 in
     let told : Err q ≡ weight (walked m v t room) = search rules in
@@ -18,5 +19,4 @@ returns-in_err-len g c =
     record {
       answer = grind (arith, pieces_bound);
       text = grind (arith, pieces_bound);
-      host = search rules;
     }

@@ -1,0 +1,70 @@
+// A table for the time of one filling, which borrows: in place of a row with a copy of a value it has the value's bytes where
+// they lie.
+ghost use Rattle.std.specs.Prelude.{◌≡◌, ◌<◌, ◌≤◌, true, [], length, Some, slice_set};
+ghost use Rattle.printer.specs.Borrowed.{rows_in};
+ghost use Rattle.printer.specs.Rows.{fit, row_of, blank, value_at};
+
+use crate::rows::Rows;
+use template::survey::MAX_HOLES;
+
+// What stands in place of a row: the bytes of its value, none where it holds nothing.
+#[derive(Clone, Copy)]
+pub struct BorrowedRow<'v> {
+    value: &'v [u8],
+}
+
+impl<'v> BorrowedRow<'v> {
+    // A row that holds nothing.
+    fn empty() -> BorrowedRow<'v>
+        ensures { result.value.now ≡ [] }
+    {
+        BorrowedRow { value: &[] }
+    }
+}
+
+// The 64 rows: each value has at most 160 bytes.
+#[derive(Drop)]
+pub struct BorrowedTable<'v> {
+    rows: [BorrowedRow<'v>; MAX_HOLES],
+    ghost fits: { fit (rows_in rows) ≡ true },
+    ghost all: { length rows ≡ 64 },
+}
+
+impl<'v> BorrowedTable<'v> {
+    // A table of rows that hold nothing.
+    pub fn new() -> BorrowedTable<'v>
+        ensures { rows_in result.rows ≡ blank 64 }
+    {
+        let row = BorrowedRow::empty();
+        BorrowedTable {
+            rows: [row; MAX_HOLES],
+        }
+    }
+
+    // Makes every row hold nothing.
+    pub(crate) fn clear(&mut self)
+        ensures { rows_in self.new.rows ≡ blank 64 }
+    {
+        *self = BorrowedTable::new();
+    }
+
+    // Makes a row hold the value, and leaves the others. The value is a slice of the caller's, so its bound is asked for.
+    pub(crate) fn store(&mut self, hole: usize, value: &'v [u8])
+        requires within { hole < 64 }
+        requires short { length value.now ≤ 160 }
+        ensures { rows_in self.new.rows ≡ slice_set (rows_in self.old.rows) hole (row_of (Some value.now)) }
+    {
+        self.rows[hole] = BorrowedRow { value };
+    }
+}
+
+impl Rows for BorrowedTable<'_> {
+    ghost rows_of_table = { λ table. rows_in table.rows };
+
+    fn value(&self, hole: usize) -> &[u8] {
+        let Some(row) = self.rows.get(hole) else {
+            return &[];
+        };
+        row.value
+    }
+}
