@@ -1,11 +1,12 @@
 -- From the answers of the calls that a merge makes to what it comes to.
 use Rattle.std.proofs.Common.{◌≡◌, ℕ, ◌+◌, List, ◌∷◌, Some, Ok, Err, Result, sym, refl, ap, ◌∙◌}
 use Rattle.host.specs.Meaning.{Meaning}
+use Rattle.host.specs.Answers.{bytes_of}
 use Rattle.host.specs.Run.{Item, literal, hole as gap}
 use Rattle.fault.specs.Refusal.{Refusal}
 use Rattle.template.specs.declared.survey.Survey.{Survey}
 use Rattle.template.specs.Items.{names_in, names}
-use Rattle.template.specs.Judging.{Verdict, verdict, survey_of}
+use Rattle.template.specs.Judging.{Verdict, contexts_in, verdict, survey_of}
 use Rattle.template.specs.Lexing.{Lexed, byte, hole, end, fault, lexed_from}
 use Rattle.template.proofs.Accepted.{accepted_is}
 use Rattle.template.proofs.Reading.{items_of, nothing, chain_some}
@@ -17,9 +18,9 @@ use Rattle.record.specs.Reading.{read_at}
 use Rattle.record.specs.Format.{Pair}
 use Rattle.printer.specs.Calls.{bodies_of}
 use Rattle.printer.specs.Held.{State}
-use Rattle.printer.specs.Passes.{and_then, walked}
+use Rattle.printer.specs.Passes.{and_then, set_out}
 use Rattle.printer.specs.Printing.{printed, after, weight}
-use Rattle.printer.proofs.Turned.{walked_printed}
+use Rattle.printer.proofs.SetOut.{set_out_printed}
 use Rattle.printer.proofs.Writing.{refuses}
 use Rattle.merge.specs.Answers.{bind_pieces, weighed_one, weighed, laid_over, written, record_pairs}
 use Rattle.merge.specs.Merging.{bind_named_lem, bind_all, with_pairs, with_record, merged_by, merged}
@@ -42,8 +43,8 @@ pub pieces_bound : (m : Meaning) (t : List ℕ) (s : Survey) (ps : List Pair) (e
 pieces_bound m t s ps e st judged = let a = accepted_is m t s.bodies.len (bodies_of s) judged in pieces_named m (survey_of s) ps e (lexed_from t 0) _ st 0 a.read
 
 -- a print that is refused
-pub unprinted : (m : Meaning) (v : ℕ → List ℕ) (t : List ℕ) (s : Survey) (room : ℕ) (q : Refusal) → verdict m t ≡ survey_of s → Err q ≡ weight (walked m v t room) → printed m v t room ≡ Err q
-unprinted m v t s room q judged e = go (printed m v t room) (e ∙ ap weight (walked_printed m v t s.bodies.len (bodies_of s) judged room))
+pub unprinted : (m : Meaning) (v : ℕ → List ℕ) (t : List ℕ) (s : Survey) (room : ℕ) (q : Refusal) → verdict m t ≡ survey_of s → bytes_of s.contexts ≡ contexts_in m (lexed_from t 0) 0 → Err q ≡ weight (set_out m (bytes_of s.contexts) v t room) → printed m v t room ≡ Err q
+unprinted m v t s room q judged there e = go (printed m v t room) (e ∙ ap weight (set_out_printed m v t (bytes_of s.contexts) s.bodies.len (bodies_of s) judged there room))
   where
     go : (x : Result (List ℕ) Refusal) → Err q ≡ weight x → x ≡ Err q
     go (Ok w) f = absurd (refuses f)

@@ -2,7 +2,8 @@
 #![tactic(auto)]
 
 ghost use Rattle.std.specs.Prelude.{◌≡◌, length, take};
-ghost use Rattle.template.specs.Judging.{verdict, survey_of};
+ghost use Rattle.host.specs.Answers.{bytes_of};
+ghost use Rattle.template.specs.Judging.{contexts_in, verdict, survey_of};
 ghost use Rattle.template.specs.Lexing.{lexed_from};
 ghost use Rattle.printer.specs.Calls.{borrowed_state};
 ghost use Rattle.printer.specs.Rows.{blank};
@@ -71,6 +72,7 @@ fn fill_in<H: Host>(
 ) -> Result<Merged, Fault>
     requires survey { verdict (H.meaning host.now) checked.template.now ≡ survey_of survey.now }
     requires holes { checked.holes ≡ survey.now.bodies.len }
+    requires contexts { bytes_of survey.now.contexts ≡ contexts_in (H.meaning host.now) (lexed_from checked.template.now 0) 0 }
     ensures answer { completed_of result ≡ weighed_one (with_pairs (H.meaning host.now) (survey_of survey.now) checked.entry.template.now survey.now.bodies.len (length out.old) (source_pairs source.now) source.now.found.now.end source.now.found.now.next) }
     ensures text { out.new ≡ laid_over out.old (with_pairs (H.meaning host.now) (survey_of survey.now) checked.entry.template.now survey.now.bodies.len (length out.old) (source_pairs source.now) source.now.found.now.end source.now.found.now.next) }
 {
@@ -79,7 +81,9 @@ fn fill_in<H: Host>(
     let mut filling = open_borrowed(checked, &mut table);
     bind_all(template, &mut filling, &mut table, host, survey, source)?;
     filling.judge_finish()?;
-    let len = filling.finish().print_borrowed(&table, host, out)?;
+    let len = filling
+        .finish()
+        .print_borrowed(&table, host, survey, out)?;
     Ok(Merged {
         next: source.found.next,
         len,

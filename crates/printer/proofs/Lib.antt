@@ -10,3 +10,4 @@ pub mod Turned
 pub mod Bound
 pub mod Surveyed
 pub mod LaidOut
+pub mod SetOut

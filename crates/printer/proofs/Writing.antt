@@ -1,12 +1,12 @@
 -- A text that is written piece by piece.
-use Rattle.std.proofs.Common.{◌≡◌, ℕ, zero, suc, ◌+◌, ◌-◌, ◌<◌, ◌≤◌, List, [], ◌∷◌, ◌++◌, length, get_or, set, take, drop, min, Some, Ok, Err, Result, sym, refl, ap, ◌∙◌, append_assoc, arith, length-append}
+use Rattle.std.proofs.Common.{◌≡◌, ℕ, zero, suc, ◌+◌, ◌-◌, ◌<◌, ◌≤◌, List, [], ◌∷◌, ◌++◌, length, get_or, set, take, drop, min, true, Some, None, Ok, Err, Result, sym, refl, ap, ◌∙◌, append_assoc, arith, length-append}
 use Rattle.fault.specs.Refusal.{Refusal}
-use Rattle.printer.specs.Passes.{and_then, spelt_out, prints, fitting, overlaid, onward, framed}
+use Rattle.printer.specs.Passes.{and_then, spelt_out, prints, sets_out, fitting, overlaid, onward, framed}
 use Rattle.template.proofs.Read.{reads_literal, reads_hole}
 use Rattle.printer.proofs.Laid.{value_short}
 use Rattle.printer.proofs.Printed.{prints_hole}
 use Rattle.printer.specs.Printing.{in_room, after, output}
-use Rattle.std.proofs.lemmas.Bool.{le-leb}
+use Rattle.std.proofs.lemmas.Bool.{le-leb, cond-true}
 use borrow.Rule.Slice.PartMut.{put_mid}
 use Rattle.std.proofs.lemmas.List.{length-take-le, at_drop_more, at_drop_all}
 use Rattle.host.specs.Meaning.{Meaning, Brackets}
@@ -124,6 +124,14 @@ module _ (m : Meaning) (v : ℕ → List ℕ) (whole rest : Lexed) (p k c at : �
   pub onward_hole : (n : List ℕ) (r : Recipe) (x : ℕ × ℕ) (e : ℕ) (o : List ℕ) → whole ≡ hole p n rest → recipe_of r ≡ m.recipe c → crossing m c ≡ Some x → Ok (e, o) ≡ onward at out (framed (brackets_of r) (spelt_out m r.body k 0 (v k))) → onward at out (prints m v whole k c) ≡ onward e o (prints m v rest (k + 1) x.1)
   onward_hole n r x e o is f g h = rw (is, prints_hole m v rest p k c n r x f g) (onward_frame (brackets_of r) _ _ at e out o h)
 
+-- the same by the contexts that the holes stand in
+module _ (m : Meaning) (cs : ℕ → ℕ) (v : ℕ → List ℕ) (whole rest : Lexed) (p k at : ℕ) (out : List ℕ) where
+  pub onward_plain : (b : ℕ) → whole ≡ byte p b rest → onward at out (sets_out m cs v whole k) ≡ onward (at + 1) (overlaid out at (b ∷ [])) (sets_out m cs v rest k)
+  onward_plain b is = rw is (onward_more at out (b ∷ []) _)
+
+  pub onward_framed : (n : List ℕ) (r : Recipe) (e : ℕ) (o : List ℕ) → whole ≡ hole p n rest → recipe_of r ≡ m.recipe (cs k) → r.takes ≡ true → Ok (e, o) ≡ onward at out (framed (brackets_of r) (spelt_out m r.body k 0 (v k))) → onward at out (sets_out m cs v whole k) ≡ onward e o (sets_out m cs v rest (k + 1))
+  onward_framed n r e o is f g h = rw (is, ← f, cond-true r.takes (Some (brackets_of r)) None g) (onward_frame (brackets_of r) _ _ at e out o h)
+
 -- a text that is measured, and then written over an output that has room for it
 pub onward_whole : (n : ℕ) (none out new : List ℕ) (x : Result (List ℕ) Refusal) (y : Result ℕ Refusal) → Ok (n, none) ≡ onward 0 [] x → n ≤ length out → after (λ k. (k, new)) y ≡ onward 0 out x → new ≡ output out (fitting (length out) x)
 onward_whole n none out new (Err r) y h fits e = cc
@@ -135,3 +143,6 @@ onward_whole n none out new (Ok w) (Ok k) h fits e =
 
 -- one turn of the walk over a template
 pub ruleset walking = (value_short, reads_literal, reads_hole, onward_literal, onward_hole, onward_none)
+
+-- and by the contexts
+pub ruleset setting_out = (reads_literal, reads_hole, onward_plain, onward_framed, onward_none)

@@ -1,9 +1,9 @@
 -- The two passes of a print, piece by piece: the first measures the text, the second lays it into the output.
-use Rattle.std.specs.Prelude.{◌≡◌, ℕ, zero, suc, ◌+◌, Bool, true, false, List, [], ◌∷◌, ◌++◌, length, Ok, Err, Result, nat_le, nat_lt}
+use Rattle.std.specs.Prelude.{◌≡◌, ℕ, zero, suc, ◌+◌, Bool, true, false, List, [], ◌∷◌, ◌++◌, length, Ok, Err, Result, nat_le, nat_lt, slice_index}
 use Rattle.host.specs.Meaning.{Meaning, Brackets}
 use Rattle.fault.specs.Refusal.{Refusal, report, of_template}
 use Rattle.template.specs.Lexing.{Lexed, byte, hole, end, fault, lexed_from}
-use Rattle.template.specs.Judging.{crossing, decide, verdict, accepted}
+use Rattle.template.specs.Judging.{crossing, contexts_in, decide, verdict, accepted}
 use Rattle.printer.specs.Printing.{turned, in_room, after, printed}
 
 abbrev pub and_then : {A B : Type 0} → Result A Refusal → (A → Result B Refusal) → Result B Refusal
@@ -43,6 +43,26 @@ walked m v t room = walked_by (nat_lt 3584 (length t)) m v t room
 -- Under a host that accepts the template they come to what is printed.
 abbrev pub WalksAsPrinted : Meaning → (ℕ → List ℕ) → List ℕ → Type 0
 WalksAsPrinted m v t = (n : ℕ) (bodies : List ℕ) → verdict m t ≡ accepted n bodies → (room : ℕ) → walked m v t room ≡ printed m v t room
+
+-- The pieces that are left by the contexts that the holes stand in, which a survey has noted: a literal stands for itself.
+abbrev pub sets_out : Meaning → (ℕ → ℕ) → (ℕ → List ℕ) → Lexed → ℕ → Result (List ℕ) Refusal
+sets_out m cs v (byte p b rest) k = after (λ t. b ∷ t) (sets_out m cs v rest k)
+sets_out m cs v (hole p n rest) k =
+    decide (m.recipe (cs k)) (Err (flawed 7 p)) (λ r. and_then (spelt_out m r.body k 0 (v k)) (λ w. after (λ t. r.opener ++ (w ++ (r.closer ++ t))) (sets_out m cs v rest (k + 1))))
+sets_out m cs v (end p) k = Ok []
+sets_out m cs v (fault r) k = Err (of_template r)
+
+abbrev pub set_out_by : Bool → Meaning → (ℕ → ℕ) → (ℕ → List ℕ) → List ℕ → ℕ → Result (List ℕ) Refusal
+set_out_by true m cs v t room = Err (flawed 1 3584)
+set_out_by false m cs v t room = fitting room (sets_out m cs v (lexed_from t 0) 0)
+
+-- both passes over a template by the contexts of its holes, short enough or not
+abbrev pub set_out : Meaning → List ℕ → (ℕ → List ℕ) → List ℕ → ℕ → Result (List ℕ) Refusal
+set_out m cs v t room = set_out_by (nat_lt 3584 (length t)) m (slice_index cs) v t room
+
+-- Under a host that accepts the template, by the contexts that its holes do stand in, they come to what is printed.
+abbrev pub SetOutAsPrinted : Meaning → List ℕ → (ℕ → List ℕ) → List ℕ → Type 0
+SetOutAsPrinted m cs v t = (n : ℕ) (bodies : List ℕ) → verdict m t ≡ accepted n bodies → cs ≡ contexts_in m (lexed_from t 0) 0 → (room : ℕ) → set_out m cs v t room ≡ printed m v t room
 
 -- bytes laid over others from a place on, as many as there are places for
 abbrev pub overlaid : List ℕ → ℕ → List ℕ → List ℕ

@@ -4,7 +4,6 @@ ghost use Rattle.std.specs.Prelude.{◌≡◌, ◌<◌, ◌≤◌, true, [], len
 ghost use Rattle.printer.specs.Borrowed.{rows_in};
 ghost use Rattle.printer.specs.Rows.{fit, row_of, blank, value_at};
 
-use crate::rows::Rows;
 use template::survey::MAX_HOLES;
 
 // What stands in place of a row: the bytes of its value, none where it holds nothing.
@@ -56,12 +55,12 @@ impl<'v> BorrowedTable<'v> {
     {
         self.rows[hole] = BorrowedRow { value };
     }
-}
 
-impl Rows for BorrowedTable<'_> {
-    ghost rows_of_table = { λ table. rows_in table.rows };
-
-    fn value(&self, hole: usize) -> &[u8] {
+    // The value of a row, and none past the last row.
+    pub(crate) fn value(&self, hole: usize) -> &'v [u8]
+        ensures value { result.now ≡ value_at (rows_in self.now.rows) hole }
+        ensures short { length result.now ≤ 160 }
+    {
         let Some(row) = self.rows.get(hole) else {
             return &[];
         };

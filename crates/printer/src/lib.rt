@@ -10,6 +10,6 @@ mod page;
 pub mod print;
 pub mod promise;
 pub mod row;
-pub mod rows;
+pub mod set_out;
 pub mod sheet;
 pub mod table;

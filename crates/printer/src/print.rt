@@ -2,7 +2,6 @@
 ghost use Rattle.std.specs.Prelude.{◌≡◌, ℕ, ◌≤◌, List, length, take, IfOk};
 ghost use Rattle.fault.specs.Refusal.{told};
 ghost use Rattle.template.specs.Lexing.{lexed_from};
-ghost use Rattle.printer.specs.Borrowed.{rows_in};
 ghost use Rattle.printer.specs.Held.{rows_of};
 ghost use Rattle.printer.specs.Passes.{prints, onward, walked, WalksAsPrinted};
 ghost use Rattle.printer.specs.Printing.{printed, after, weight, output, ReadsBack};
@@ -10,11 +9,10 @@ ghost use Rattle.printer.specs.Rows.{value_at};
 ghost use Rattle.printer.specs.Slate.{Slate, values_on};
 
 use crate::bind::surveyed;
-use crate::borrowed::BorrowedTable;
 use crate::finished::Finished;
 use crate::page::Page;
-use crate::rows::Rows;
 use crate::sheet::Sheet;
+use crate::table::Table;
 use fault::flaw::MAX_TEMPLATE;
 use fault::{Fault, Flaw};
 use host::Host;
@@ -24,14 +22,14 @@ use template::items::{Items, Placed};
 
 // Writes as much of the text of a template as the output has places for, and answers the length of all of it.
 #[tactic(auto, using(crate::proofs::Writing::walking))]
-fn walk_text<H: Host, R: Rows>(
+fn walk_text<H: Host>(
     template: &[u8],
     host: &H,
-    rows: &R,
+    values: &Table,
     out: &mut [u8],
 ) -> Result<usize, Fault>
     requires { length template.now ≤ 3584 }
-    ensures { after (λ n. (n, out.new)) (told result) ≡ onward 0 out.old (prints (H.meaning host.now) (value_at (R.rows_of_table rows.now)) (lexed_from template.now 0) 0 0) }
+    ensures { after (λ n. (n, out.new)) (told result) ≡ onward 0 out.old (prints (H.meaning host.now) (value_at values.now.rows) (lexed_from template.now 0) 0 0) }
 {
     let mut context = 0;
     // Only holes are counted, so `enumerate` does not serve.
@@ -50,35 +48,13 @@ fn walk_text<H: Host, R: Rows>(
             Item::Hole(Hole { place, .. }) => {
                 let recipe = host.recipe(context);
                 let (_, next) = cross(host, context).map_err(|_| Flaw::HoleRefused { place })?;
-                page.put_hole(host, recipe, rows.value(holes), holes, out)?;
+                page.put_hole(host, recipe, values.value(holes), holes, out)?;
                 holes += 1;
                 context = next;
             }
         }
     }
     Ok(page.end)
-}
-
-// Writes the text of a template that a host accepts: of its flaws only those are found that stop the walk.
-fn print_rows<H: Host, R: Rows>(
-    template: &[u8],
-    host: &H,
-    rows: &R,
-    out: &mut [u8],
-) -> Result<usize, Fault>
-    ensures answer { told result ≡ weight (walked (H.meaning host.now) (value_at (R.rows_of_table rows.now)) template.now (length out.old)) }
-    ensures text { out.new ≡ output out.old (walked (H.meaning host.now) (value_at (R.rows_of_table rows.now)) template.now (length out.old)) }
-    ensures law { WalksAsPrinted (H.meaning host.now) (value_at (R.rows_of_table rows.now)) template.now }
-{
-    if template.len() > MAX_TEMPLATE {
-        return Err(Fault::Template(Flaw::TooLong));
-    }
-    // The first walk writes nothing.
-    let needed = walk_text(template, host, rows, &mut [])?;
-    if needed > out.len() {
-        return Err(Fault::OutputTooShort { needed });
-    }
-    walk_text(template, host, rows, out)
 }
 
 impl Finished<'_> {
@@ -102,20 +78,14 @@ impl Finished<'_> {
         ensures text { out.new ≡ output out.old (walked (H.meaning sheet.now.host) (value_at sheet.now.table.rows) self.now.template.now (length out.old)) }
         ensures law { WalksAsPrinted (H.meaning sheet.now.host) (value_at sheet.now.table.rows) self.now.template.now }
     {
-        print_rows(self.template, &sheet.host, &sheet.table, out)
-    }
-
-    // The same from a table that borrows the values.
-    pub fn print_borrowed<H: Host>(
-        &self,
-        table: &BorrowedTable<'_>,
-        host: &H,
-        out: &mut [u8],
-    ) -> Result<usize, Fault>
-        ensures answer { told result ≡ weight (walked (H.meaning host.now) (value_at (rows_in table.now.rows)) self.now.template.now (length out.old)) }
-        ensures text { out.new ≡ output out.old (walked (H.meaning host.now) (value_at (rows_in table.now.rows)) self.now.template.now (length out.old)) }
-        ensures law { WalksAsPrinted (H.meaning host.now) (value_at (rows_in table.now.rows)) self.now.template.now }
-    {
-        print_rows(self.template, host, table, out)
+        if self.template.len() > MAX_TEMPLATE {
+            return Err(Fault::Template(Flaw::TooLong));
+        }
+        // The first walk writes nothing.
+        let needed = walk_text(self.template, &sheet.host, &sheet.table, &mut [])?;
+        if needed > out.len() {
+            return Err(Fault::OutputTooShort { needed });
+        }
+        walk_text(self.template, &sheet.host, &sheet.table, out)
     }
 }

@@ -4,7 +4,6 @@ ghost use Rattle.printer.specs.Held.{rows_of};
 ghost use Rattle.printer.specs.Rows.{blank, value_at};
 ghost use Rattle.printer.specs.Slate.{Slate, values_on};
 
-use crate::rows::Rows;
 use crate::table::Table;
 use host::Host;
 

@@ -1,9 +1,8 @@
 // The table of the 64 rows of a sheet: each length is at most 160, and the bytes past it are 0.
 ghost use Rattle.std.specs.Prelude.{◌≡◌, ◌<◌, ◌≤◌, true, length, Some, None, slice_set};
-ghost use Rattle.printer.specs.Rows.{fit, row_of, blank};
+ghost use Rattle.printer.specs.Rows.{fit, row_of, blank, value_at};
 
 use crate::row::Row;
-use crate::rows::Rows;
 use template::survey::MAX_HOLES;
 
 #[derive(Drop)]
@@ -52,12 +51,11 @@ impl Table {
         rows[hole].wipe();
         *self = Table { rows };
     }
-}
 
-impl Rows for Table {
-    ghost rows_of_table = { λ table. table.rows };
-
-    fn value(&self, hole: usize) -> &[u8] {
+    // The value in a row, and none past the last row.
+    pub(crate) fn value(&self, hole: usize) -> &[u8]
+        ensures { result.now ≡ value_at self.now.rows hole }
+    {
         let Some(row) = self.rows.get(hole) else {
             return &[];
         };

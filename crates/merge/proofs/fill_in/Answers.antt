@@ -1,6 +1,7 @@
 use Rattle.std.proofs.Common.{◌≡◌, Err, length, arith, rules}
 use Rattle.fault.specs.Refusal.{refusal_of}
-use Rattle.printer.specs.Passes.{walked}
+use Rattle.host.specs.Answers.{bytes_of}
+use Rattle.printer.specs.Passes.{set_out}
 use Rattle.printer.specs.Printing.{printed, weight}
 use Rattle.printer.specs.Borrowed.{rows_in}
 use Rattle.printer.specs.Rows.{value_at}
@@ -14,8 +15,8 @@ returns-in_err-len g c =
     let v = value_at (rows_in c.bind_all.new.table.rows) in
     let room = length c.args.out.now in
     let q = refusal_of c.in_err-len.field-0.0 in
-    let told : Err q ≡ weight (walked m v t room) = search rules in
-    let no_text : printed m v t room ≡ Err q = unprinted m v t c.args.survey.now room q c.requires.survey told in
+    let told : Err q ≡ weight (set_out m (bytes_of c.args.survey.now.contexts) v t room) = search rules in
+    let no_text : printed m v t room ≡ Err q = unprinted m v t c.args.survey.now room q c.requires.survey c.requires.contexts told in
     record {
       answer = grind (arith, pieces_bound);
       text = grind (arith, pieces_bound);

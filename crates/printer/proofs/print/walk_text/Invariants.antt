@@ -7,7 +7,7 @@ use Rattle.printer.proofs.print.walk_text.Given as goal
 abbrev pub invariant-loop-read : goal.invariant-loop-read
 invariant-loop-read g l =
     let m = g.H.Host.meaning l.host in
-    let v = value_at (g.R.Rows.rows_of_table l.rows) in
+    let v = value_at l.values.rows in
     let at = l.read-iterator.at in
     record {
       same_template : l.read-iterator.template.now ≡ l.template;

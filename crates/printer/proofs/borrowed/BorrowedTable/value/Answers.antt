@@ -2,7 +2,7 @@ use Rattle.std.proofs.Common.{◌<◌, length, sym, rules}
 use Rattle.printer.specs.Borrowed.{rows_in}
 use Rattle.printer.proofs.Laid.{value_short}
 use Rattle.printer.proofs.LaidOut.{found_at}
-use Rattle.printer.proofs.borrowed.BorrowedTableRows.value.Goals as goal
+use Rattle.printer.proofs.borrowed.BorrowedTable.value.Goals as goal
 
 pub returns : goal.returns
 returns c =
