@@ -7,6 +7,8 @@ use std::str;
 
 // Escaping: what makes a value fit to stand between quotes
 
+pub type Escape = fn(&str) -> Cow<'_, str>;
+
 /// Between the single quotes of SQL.
 pub fn sql(value: &str) -> Cow<'_, str> {
     replaced(value, '\'', "''")
@@ -156,6 +158,38 @@ pub fn fill_all(out: &mut Vec<u8>, mut file: &[u8], fill: Fill) -> Option<()> {
         let (values, rest) = Values::read(file)?;
         fill(out, &values)?;
         file = rest;
+    }
+    Some(())
+}
+
+// A template that is known when the program runs
+
+/// A part of such a template; a hole by its name.
+pub enum Piece {
+    Literal(String),
+    Hole(String),
+}
+
+/// Goes through a file of records and writes the text for each.
+pub fn fill_pieces(
+    out: &mut Vec<u8>,
+    mut file: &[u8],
+    pieces: &[Piece],
+    escape: Escape,
+) -> Option<()> {
+    let mut pairs = Vec::new();
+    while !file.is_empty() {
+        pairs.clear();
+        file = for_each_pair(file, |name, value| pairs.push((name, value)))?;
+        for piece in pieces {
+            match piece {
+                Piece::Literal(text) => out.extend_from_slice(text.as_bytes()),
+                Piece::Hole(hole) => {
+                    let (_, value) = pairs.iter().find(|(name, _)| *name == hole.as_bytes())?;
+                    out.extend_from_slice(escape(value).as_bytes());
+                }
+            }
+        }
     }
     Some(())
 }

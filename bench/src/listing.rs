@@ -2,177 +2,191 @@
 
 use crate::by_hand;
 use crate::inputs::{runs, Run};
-use crate::measure::{compare, Subject};
+use crate::measure::{compare, Group, Measured, Subject};
 use crate::other_crates;
-use crate::table::{of_ways, Table};
+use crate::ours;
+use crate::table::{of_ways, thousands, Table};
+use crate::ways::Way;
 use gabirong::Host;
 use std::hint::black_box;
-use std::io::Write;
+use std::slice;
 
 /// About how long the texts are.
 const LEN: usize = 60_000;
 
+/// Another reader of the language.
+struct Rival {
+    name: &'static str,
+    remark: &'static str,
+    read: fn(&str),
+    assert_right: fn(&str, &[Token]),
+}
+
+struct Language {
+    name: &'static str,
+    host: Host,
+    /// A part of a text, about one run.
+    part: fn(&Run) -> String,
+    rival: Option<Rival>,
+}
+
+static LANGUAGES: [Language; 3] = [
+    Language {
+        name: "SQL",
+        host: Host::Sql,
+        part: sql_part,
+        rival: None,
+    },
+    Language {
+        name: "shell",
+        host: Host::Shell,
+        part: shell_part,
+        rival: Some(Rival {
+            name: "shell_words::split",
+            remark: "same words; does not tell line ends",
+            read: |text| {
+                black_box(words(text));
+            },
+            assert_right: |text, tokens| {
+                assert!(words(text) == of_kind(tokens, 1), "other words");
+            },
+        }),
+    },
+    Language {
+        name: "CSV",
+        host: Host::Csv,
+        part: other_crates::csv_row,
+        rival: Some(Rival {
+            name: "csv::Reader, into one ByteRecord",
+            remark: "same fields and rows",
+            read: |text| {
+                other_crates::read_by_csv(text, |row| {
+                    black_box(row);
+                })
+            },
+            assert_right: |text, tokens| {
+                let rows = other_crates::rows_by_csv(text);
+                assert!(rows.len() == of_kind(tokens, 2).len(), "other rows");
+                assert!(rows.concat() == of_kind(tokens, 1), "other fields");
+            },
+        }),
+    },
+];
+
+fn sql_part(run: &Run) -> String {
+    format!(
+        "UPDATE runs SET depth = {}, note = '{}'\n  WHERE (run = '{}');\n",
+        run.depth,
+        by_hand::sql(&run.note),
+        by_hand::sql(&run.run)
+    )
+}
+
+fn shell_part(run: &Run) -> String {
+    format!(
+        "groom --run {} --depth {} --site={} \\\n    --note \"{}\" to=/var/log/runs Old\\ Mill\n",
+        shell_words::quote(&run.run),
+        run.depth,
+        shell_words::quote(&run.site),
+        by_hand::shell_double(&run.note)
+    )
+}
+
+fn words(text: &str) -> Vec<String> {
+    shell_words::split(text).expect("the quotes are closed")
+}
+
 /// A kind and the bytes.
-type Token<'a> = (u8, &'a [u8]);
+type Token<'a> = (u8, &'a str);
 
-fn list(host: Host, text: &[u8], out: &mut [u8]) -> usize {
-    host.list(text, out)
-        .expect("the host takes the text, and there is room")
-}
-
-fn listing_of(host: Host, text: &[u8]) -> Vec<u8> {
-    // A field has three bytes before those of its token.
-    let mut out = vec![0; 4 * text.len() + 3];
-    let len = list(host, text, &mut out);
-    out.truncate(len);
-    out
-}
-
-fn tokens_of(mut listing: &[u8]) -> Vec<Token<'_>> {
+fn tokens_of(mut fields: &[u8]) -> Vec<Token<'_>> {
     let mut tokens = Vec::new();
-    while let [kind, high, low, rest @ ..] = listing {
+    while let [kind, high, low, rest @ ..] = fields {
         let (bytes, rest) = rest.split_at(u16::from_be_bytes([*high, *low]).into());
-        tokens.push((*kind, bytes));
-        listing = rest;
+        tokens.push((*kind, str::from_utf8(bytes).expect("the texts are ASCII")));
+        fields = rest;
     }
     tokens
 }
 
-/// A text of about that length, in which a part is added for each run.
-fn text_of(mut add: impl FnMut(&mut Vec<u8>, &Run)) -> Vec<u8> {
-    let mut text = Vec::new();
-    for run in runs(LEN) {
-        if text.len() >= LEN {
-            break;
+fn of_kind<'a>(tokens: &[Token<'a>], kind: u8) -> Vec<&'a str> {
+    let tokens = tokens.iter().filter(|token| token.0 == kind);
+    tokens.map(|token| token.1).collect()
+}
+
+/// A language with its text, and the fields that are listed of it.
+struct Case {
+    language: &'static Language,
+    text: String,
+    fields: Vec<u8>,
+}
+
+impl Case {
+    fn new(language: &'static Language) -> Case {
+        let mut text = String::new();
+        for run in runs(LEN / 20) {
+            if text.len() < LEN {
+                text += &(language.part)(&run);
+            }
         }
-        add(&mut text, &run);
+        let fields = ours::fields_of(language.host, text.as_bytes());
+        if let Some(rival) = &language.rival {
+            (rival.assert_right)(&text, &tokens_of(&fields));
+        }
+        Case {
+            language,
+            text,
+            fields,
+        }
     }
-    text
-}
 
-fn csv_text() -> Vec<u8> {
-    text_of(|text, run| {
-        other_crates::csv_writer(text, csv::QuoteStyle::Necessary)
-            .write_record([&run.run, &run.depth, &run.site, &run.note])
-            .expect("a vector takes all");
-    })
-}
+    fn ours(&self) -> Subject<'_> {
+        let mut out = vec![0; self.fields.len()];
+        Subject::new("gabirong", move || {
+            let text = black_box(self.text.as_bytes());
+            black_box(ours::list(self.language.host, text, &mut out));
+        })
+    }
 
-fn shell_text() -> Vec<u8> {
-    text_of(|text, run| {
-        writeln!(
-            text,
-            "groom --run {} --depth {} --site={} \\\n    --note \"{}\" to=/var/log/runs Old\\ Mill",
-            shell_words::quote(&run.run),
-            run.depth,
-            shell_words::quote(&run.site),
-            by_hand::shell_double(&run.note)
+    /// The subjects, the first of them ours, each with a remark on its output.
+    fn subjects(&self) -> Vec<(Subject<'_>, &'static str)> {
+        let copying = Way::copying(slice::from_ref(&self.text)).subject();
+        let mut subjects = vec![(self.ours(), ""), (copying, "")];
+        if let Some(rival) = &self.language.rival {
+            let read = || (rival.read)(black_box(&self.text));
+            subjects.insert(1, (Subject::new(rival.name, read), rival.remark));
+        }
+        subjects
+    }
+
+    fn group(&self) -> Group<'_> {
+        let subjects = self.subjects().into_iter();
+        Group {
+            subjects: subjects.map(|subject| subject.0).collect(),
+            parts: self.text.len(),
+        }
+    }
+
+    fn table(&self, measured: &[Measured]) -> Table {
+        let remarks: Vec<&str> = self.subjects().iter().map(|subject| subject.1).collect();
+        of_ways(
+            &format!("Listing, {}", self.language.name),
+            &format!(
+                "A text of {} bytes, which has {} tokens.",
+                thousands(self.text.len()),
+                thousands(tokens_of(&self.fields).len())
+            ),
+            "ns a byte",
+            measured,
+            &remarks,
         )
-        .expect("a vector takes all");
-    })
+    }
 }
 
-fn sql_text() -> Vec<u8> {
-    text_of(|text, run| {
-        writeln!(
-            text,
-            "UPDATE runs SET depth = {}, note = '{}'\n  WHERE (run = '{}');",
-            run.depth,
-            by_hand::sql(&run.note),
-            by_hand::sql(&run.run)
-        )
-        .expect("a vector takes all");
-    })
-}
-
-fn ours<'a>(host: Host, text: &'a [u8], listing: &[u8]) -> Subject<'a> {
-    let mut out = vec![0; listing.len()];
-    Subject::new("gabirong", move || {
-        black_box(list(host, black_box(text), &mut out));
-        black_box(&out);
-    })
-}
-
-fn copying(text: &[u8]) -> Subject<'_> {
-    let mut out = Vec::new();
-    Subject::new("copying the text", move || {
-        out.clear();
-        out.extend_from_slice(black_box(text));
-        black_box(&out);
-    })
-}
-
-fn compared(heading: &str, host: Host, text: &[u8], rival: Option<(Subject, &str)>) -> Table {
-    let listing = listing_of(host, text);
-    let tokens = tokens_of(&listing).len();
-    let (rival, remark): (Vec<Subject>, Vec<&str>) = rival.into_iter().unzip();
-    let mut subjects = vec![ours(host, text, &listing)];
-    subjects.extend(rival);
-    subjects.push(copying(text));
-    let remarks = [&[""], &remark[..], &[""]].concat();
-    of_ways(
-        heading,
-        &format!("A text of {} bytes, which has {tokens} tokens.", text.len()),
-        "ns a byte",
-        &compare(subjects, text.len()),
-        &remarks,
-    )
-}
-
-/// The tokens of the kind, each as its bytes.
-fn of_kind(listing: &[u8], kind: u8) -> Vec<Vec<u8>> {
-    tokens_of(listing)
-        .into_iter()
-        .filter(|token| token.0 == kind)
-        .map(|token| token.1.to_vec())
-        .collect()
-}
-
-fn csv_compared() -> Table {
-    let text = csv_text();
-    let listing = listing_of(Host::Csv, &text);
-    let rows = other_crates::rows_by_csv(&text);
-    assert!(rows.len() == of_kind(&listing, 2).len(), "csv: other rows");
-    assert!(rows.concat() == of_kind(&listing, 1), "csv: other fields");
-    let rival = Subject::new("csv::Reader, into one ByteRecord", || {
-        other_crates::read_by_csv(black_box(&text), |record| {
-            black_box(record);
-        });
-    });
-    compared(
-        "Listing, CSV",
-        Host::Csv,
-        &text,
-        Some((rival, "same fields and rows")),
-    )
-}
-
-fn shell_compared() -> Table {
-    let bytes = shell_text();
-    let text = std::str::from_utf8(&bytes).expect("the text is ASCII");
-    let words: Vec<Vec<u8>> = split(text).into_iter().map(String::into_bytes).collect();
-    let listing = listing_of(Host::Shell, &bytes);
-    assert!(words == of_kind(&listing, 1), "shell_words: other words");
-    let rival = Subject::new("shell_words::split", || {
-        black_box(split(black_box(text)));
-    });
-    compared(
-        "Listing, shell",
-        Host::Shell,
-        &bytes,
-        Some((rival, "same words; line ends are not told")),
-    )
-}
-
-fn split(text: &str) -> Vec<String> {
-    shell_words::split(text).expect("the quotes are closed")
-}
-
-/// Compares the ways of each host.
+/// Compares the readers of each language.
 pub fn tables() -> Vec<Table> {
-    vec![
-        csv_compared(),
-        shell_compared(),
-        compared("Listing, SQL", Host::Sql, &sql_text(), None),
-    ]
+    let cases: Vec<Case> = LANGUAGES.iter().map(Case::new).collect();
+    let measured = compare(cases.iter().map(Case::group).collect());
+    let cases = cases.iter().zip(&measured);
+    cases.map(|(case, measured)| case.table(measured)).collect()
 }

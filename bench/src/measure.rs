@@ -3,7 +3,7 @@
 use std::time::{Duration, Instant};
 
 const BATCH: Duration = Duration::from_millis(5);
-const BATCHES: usize = 17;
+pub const BATCHES: usize = 21;
 
 /// One way to do the work that is compared.
 pub struct Subject<'a> {
@@ -41,60 +41,77 @@ impl<'a> Subject<'a> {
     }
 }
 
-/// Nanoseconds for one piece of work: the median of the batches, and the quartiles around it.
-#[derive(Clone, Copy)]
-pub struct Time {
-    pub lower: f64,
-    pub median: f64,
-    pub upper: f64,
-}
-
-impl Time {
-    fn of(mut batches: Vec<f64>) -> Time {
-        batches.sort_by(f64::total_cmp);
-        let last = batches.len() - 1;
-        Time {
-            lower: batches[last / 4],
-            median: batches[last / 2],
-            upper: batches[last * 3 / 4],
-        }
-    }
-
-    /// The time for one part, where a run has so many of them.
-    fn divided(self, parts: usize) -> Time {
-        let parts = parts as f64;
-        Time {
-            lower: self.lower / parts,
-            median: self.median / parts,
-            upper: self.upper / parts,
-        }
-    }
-}
-
-/// A subject and its time.
+/// A subject and its times: the nanoseconds for one part of its work, in each batch.
 pub struct Measured {
     pub name: &'static str,
-    pub time: Time,
+    batches: Vec<f64>,
 }
 
-/// Measures subjects against each other. A run of each does so many parts of the work, and the time is that of one part.
-///
-/// The subjects take turns batch by batch, so that whatever slows the machine down for a while hits all of them.
-pub fn compare(mut subjects: Vec<Subject>, parts: usize) -> Vec<Measured> {
-    let runs: Vec<u32> = subjects.iter_mut().map(Subject::calibrated).collect();
-    let mut batches = vec![Vec::with_capacity(BATCHES); subjects.len()];
-    for _ in 0..BATCHES {
-        for ((subject, &runs), batches) in subjects.iter_mut().zip(&runs).zip(&mut batches) {
-            let took = (subject.batch)(runs);
-            batches.push(took.as_secs_f64() * 1e9 / f64::from(runs));
+impl Measured {
+    pub fn median(&self) -> f64 {
+        part_way(self.batches.clone(), 2)
+    }
+
+    /// Between these lies the middle half of the batches.
+    pub fn quartiles(&self) -> (f64, f64) {
+        let quarter = |quarters| part_way(self.batches.clone(), quarters);
+        (quarter(1), quarter(3))
+    }
+
+    /// How many times as long this takes as another: the median of the rounds. (A round is over before a machine has changed
+    /// much, so this is steadier than the times are.)
+    pub fn times(&self, other: &Measured) -> f64 {
+        let rounds = self.batches.iter().zip(&other.batches);
+        part_way(rounds.map(|(this, other)| this / other).collect(), 2)
+    }
+}
+
+/// The value so many quarters up the row, when it is sorted.
+fn part_way(mut values: Vec<f64>, quarters: usize) -> f64 {
+    values.sort_by(f64::total_cmp);
+    values[(values.len() - 1) * quarters / 4]
+}
+
+/// Subjects that do the same work. A run of each does so many parts of it, and the times are told for one part.
+pub struct Group<'a> {
+    pub subjects: Vec<Subject<'a>>,
+    pub parts: usize,
+}
+
+impl Group<'_> {
+    fn unmeasured(&self) -> Vec<Measured> {
+        let subjects = self.subjects.iter();
+        subjects
+            .map(|subject| Measured {
+                name: subject.name,
+                batches: Vec::with_capacity(BATCHES),
+            })
+            .collect()
+    }
+
+    /// Runs a batch of each subject.
+    fn add_batches(&mut self, runs: &[u32], measured: &mut [Measured]) {
+        for ((subject, &runs), measured) in self.subjects.iter_mut().zip(runs).zip(measured) {
+            let took = (subject.batch)(runs).as_secs_f64() * 1e9;
+            measured
+                .batches
+                .push(took / f64::from(runs) / self.parts as f64);
         }
     }
-    subjects
-        .iter()
-        .zip(batches)
-        .map(|(subject, batches)| Measured {
-            name: subject.name,
-            time: Time::of(batches).divided(parts),
-        })
-        .collect()
+}
+
+/// Measures the subjects of all groups, and answers those of each group.
+///
+/// They take turns batch by batch, so that whatever slows the machine down for a while hits all of them.
+pub fn compare(mut groups: Vec<Group>) -> Vec<Vec<Measured>> {
+    let calibrate =
+        |group: &mut Group| group.subjects.iter_mut().map(Subject::calibrated).collect();
+    let runs: Vec<Vec<u32>> = groups.iter_mut().map(calibrate).collect();
+    let mut measured: Vec<Vec<Measured>> = groups.iter().map(Group::unmeasured).collect();
+    for _ in 0..BATCHES {
+        for ((group, runs), measured) in groups.iter_mut().zip(&runs).zip(&mut measured) {
+            group.add_batches(runs, measured);
+        }
+    }
+    measured
 }

@@ -58,7 +58,7 @@ pub fn fill_by_tera(out: &mut Vec<u8>, tera: &Tera, runs: &[Run]) {
 // csv
 
 /// A writer of rows that end as in RFC 4180.
-pub fn csv_writer<W: Write>(out: W, quotes: QuoteStyle) -> Writer<W> {
+fn csv_writer<W: Write>(out: W, quotes: QuoteStyle) -> Writer<W> {
     WriterBuilder::new()
         .quote_style(quotes)
         .terminator(Terminator::CRLF)
@@ -76,9 +76,21 @@ pub fn write_by_csv(out: &mut Vec<u8>, runs: &[Run]) {
     writer.flush().expect("a vector takes all");
 }
 
+/// The row of a run, with quotes where they are needed.
+pub fn csv_row(run: &Run) -> String {
+    let mut writer = csv_writer(Vec::new(), QuoteStyle::Necessary);
+    writer
+        .write_record([&run.run, &run.depth, &run.site, &run.note])
+        .expect("a vector takes all");
+    let row = writer.into_inner().expect("a vector takes all");
+    String::from_utf8(row).expect("the fields are strings")
+}
+
 /// Reads the rows of a text, one after another.
-pub fn read_by_csv(text: &[u8], mut tell: impl FnMut(&ByteRecord)) {
-    let mut reader = ReaderBuilder::new().has_headers(false).from_reader(text);
+pub fn read_by_csv(text: &str, mut tell: impl FnMut(&ByteRecord)) {
+    let mut reader = ReaderBuilder::new()
+        .has_headers(false)
+        .from_reader(text.as_bytes());
     let mut row = ByteRecord::new();
     while reader.read_byte_record(&mut row).expect("the text is CSV") {
         tell(&row);
@@ -86,10 +98,11 @@ pub fn read_by_csv(text: &[u8], mut tell: impl FnMut(&ByteRecord)) {
 }
 
 /// The fields of each row.
-pub fn rows_by_csv(text: &[u8]) -> Vec<Vec<Vec<u8>>> {
+pub fn rows_by_csv(text: &str) -> Vec<Vec<String>> {
     let mut rows = Vec::new();
     read_by_csv(text, |row| {
-        rows.push(row.iter().map(<[u8]>::to_vec).collect());
+        let fields = row.iter().map(String::from_utf8_lossy);
+        rows.push(fields.map(String::from).collect());
     });
     rows
 }
