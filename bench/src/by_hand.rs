@@ -3,7 +3,6 @@
 use crate::inputs::Run;
 use std::borrow::Cow;
 use std::io::Write;
-use std::str;
 
 // Escaping: what makes a value fit to stand between quotes
 

@@ -16,7 +16,7 @@ pub fn table() -> String {
         | processor | {}, {cores} cores |\n\
         | load of the machine at the start | {} |\n\
         | compiler | {} |\n\
-        | compared with | csv {}, shell-words {}, tera {} |\n",
+        | compared with | csv {}, shell-words {}, tera {} (without its default features) |\n",
         output("date", &["-u", "+%F"]),
         processor(),
         load(),

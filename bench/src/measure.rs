@@ -58,8 +58,8 @@ impl Measured {
         (quarter(1), quarter(3))
     }
 
-    /// How many times as long this takes as another: the median of the rounds. (A round is over before a machine has changed
-    /// much, so this is steadier than the times are.)
+    /// How many times as long this takes as another: the median of the rounds. (The batches of a group in one round lie close
+    /// together in time, so this is steadier than the times are.)
     pub fn times(&self, other: &Measured) -> f64 {
         let rounds = self.batches.iter().zip(&other.batches);
         part_way(rounds.map(|(this, other)| this / other).collect(), 2)

@@ -50,14 +50,14 @@ static EVERYDAY: [Everyday; 3] = [
 ];
 
 fn reading_by_hand(fill: Fill, file: &[u8]) -> Way<'_> {
-    Way::adding("by hand", move |out| {
+    Way::adding("by hand, from records", move |out| {
         by_hand::fill_all(out, black_box(file), fill).expect("the file is whole");
     })
 }
 
 fn by_hand(fill: Fill, runs: &[Run]) -> Way<'_> {
     let values: Vec<Values> = runs.iter().map(Values::of).collect();
-    Way::adding("by hand, values at hand", move |out| {
+    Way::adding("by hand, from values", move |out| {
         for values in black_box(&values) {
             fill(out, values).expect("all values are there");
         }
@@ -66,19 +66,19 @@ fn by_hand(fill: Fill, runs: &[Run]) -> Way<'_> {
 
 fn by_tera<'a>(everyday: &Everyday, runs: &'a [Run]) -> Way<'a> {
     let tera = other_crates::tera_of(everyday.tera, everyday.escape);
-    Way::adding("tera, values at hand", move |out| {
+    Way::adding("tera, from values", move |out| {
         other_crates::fill_by_tera(out, &tera, black_box(runs));
     })
 }
 
 fn by_csv(runs: &[Run]) -> Way<'_> {
-    Way::adding("csv::Writer, values at hand", |out| {
+    Way::adding("csv::Writer, from values", |out| {
         other_crates::write_by_csv(out, black_box(runs));
     })
 }
 
 fn by_shell_words(runs: &[Run]) -> Way<'_> {
-    Way::adding("shell_words::quote, values at hand", |out| {
+    Way::adding("shell_words::quote, from values", |out| {
         other_crates::quote_by_shell_words(out, black_box(runs));
     })
 }
@@ -149,7 +149,8 @@ impl<'a> Case<'a> {
         of_ways(
             &format!("Merging, {}", self.everyday.name),
             &format!(
-                "{RECORDS} records in {} bytes; their texts have {} bytes. The template: `{}`",
+                "{} records in {} bytes; their texts have {} bytes. The template: `{}`",
+                thousands(RECORDS),
                 thousands(self.file.len()),
                 thousands(self.texts.concat().len()),
                 self.everyday.template

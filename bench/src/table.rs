@@ -80,7 +80,7 @@ pub fn of_ways(
     Table {
         heading: heading.into(),
         words: words.into(),
-        head: ["", unit, "middle half", "ours ÷ this", "output"]
+        head: ["way", unit, "middle half", "ours ÷ this", "output"]
             .map(String::from)
             .into(),
         rows: rows.collect(),
