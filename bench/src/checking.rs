@@ -1,6 +1,7 @@
 //! Checking templates of growing size.
 
-use crate::measure::{compare, Group, Measured, Subject};
+use crate::comparison::Comparison;
+use crate::measure::{Group, Measured, Subject};
 use crate::other_crates;
 use crate::ours;
 use crate::sketch::{Sketch, Style, STYLES};
@@ -58,7 +59,7 @@ impl Case {
         }
     }
 
-    fn point(&self, ways: Vec<Measured>) -> Point {
+    fn point<'a>(&self, ways: &'a Vec<Measured>) -> Point<'a> {
         Point {
             at: vec![self.template.len(), self.holes],
             ways,
@@ -66,26 +67,34 @@ impl Case {
     }
 }
 
-fn cases(style: &'static Style) -> impl Iterator<Item = Case> {
-    LENGTHS.iter().map(move |&len| Case::new(style, len))
+/// The cases of all hosts, one host after another.
+pub struct Checking(Vec<Case>);
+
+impl Checking {
+    pub fn new() -> Self {
+        let cases = |style| LENGTHS.iter().map(move |&len| Case::new(style, len));
+        Checking(STYLES.iter().flat_map(cases).collect())
+    }
 }
 
-/// Compares the ways of each host.
-pub fn tables() -> Vec<Table> {
-    let cases: Vec<Case> = STYLES.iter().flat_map(cases).collect();
-    let measured = compare(cases.iter().map(Case::group).collect());
-    let points = cases.iter().zip(measured);
-    let points: Vec<Point> = points.map(|(case, ways)| case.point(ways)).collect();
-    STYLES
-        .iter()
-        .zip(points.chunks(LENGTHS.len()))
-        .map(|(style, points)| {
-            of_series(
-                &format!("Checking, {}", style.name),
-                "Nanoseconds a byte of the template, as it is in our notation.",
-                &["bytes", "holes"],
-                points,
-            )
-        })
-        .collect()
+impl Comparison for Checking {
+    fn groups(&self) -> Vec<Group<'_>> {
+        self.0.iter().map(Case::group).collect()
+    }
+
+    fn tables(&self, measured: &[Vec<Measured>]) -> Vec<Table> {
+        let points = self.0.iter().zip(measured);
+        let points: Vec<Point> = points.map(|(case, ways)| case.point(ways)).collect();
+        let hosts = STYLES.iter().zip(points.chunks(LENGTHS.len()));
+        hosts
+            .map(|(style, points)| {
+                of_series(
+                    &format!("Checking, {}", style.name),
+                    "Nanoseconds a byte of the template, as it is in our notation.",
+                    &["bytes", "holes"],
+                    points,
+                )
+            })
+            .collect()
+    }
 }

@@ -1,7 +1,8 @@
 //! How the cost of a merge grows with its template and its values.
 
 use crate::by_hand::{self, Piece};
-use crate::measure::{compare, Group};
+use crate::comparison::Comparison;
+use crate::measure::{Group, Measured};
 use crate::ours;
 use crate::plot::{self, Key, Panel};
 use crate::sketch::{self, Sketch, Style, STYLES};
@@ -146,32 +147,6 @@ impl Case {
     }
 }
 
-/// What was measured of a growth: for each host its points.
-pub struct Grown {
-    growth: &'static Growth,
-    hosts: Vec<(&'static str, Vec<Point>)>,
-}
-
-fn measured(growth: &'static Growth) -> Grown {
-    let cases = |style| {
-        growth
-            .at
-            .iter()
-            .map(move |&at| Case::new(style, growth, at))
-    };
-    let cases: Vec<Case> = STYLES.iter().flat_map(cases).collect();
-    let measured = compare(cases.iter().map(Case::group).collect());
-    let mut points = cases.iter().zip(measured).map(|(case, ways)| Point {
-        at: vec![case.at],
-        ways,
-    });
-    let mut next = || points.by_ref().take(growth.at.len()).collect();
-    Grown {
-        growth,
-        hosts: STYLES.iter().map(|style| (style.name, next())).collect(),
-    }
-}
-
 /// What the plot has of each growth: ours under each host, and the others under the first of them.
 const KEYS: [Key; 5] = [
     Key {
@@ -209,22 +184,66 @@ fn line(points: &[Point], way: usize) -> Vec<plot::Point> {
         .collect()
 }
 
-pub fn plot(grown: &[Grown]) -> String {
-    let panels: Vec<Panel> = grown.iter().map(Grown::panel).collect();
-    plot::svg(
-        "What a merge costs as it grows",
-        "nanoseconds a record",
-        &panels,
-        &KEYS,
-    )
+/// The growths, each with the cases of all hosts, one host after another.
+pub struct Growing(Vec<(&'static Growth, Vec<Case>)>);
+
+/// What was measured of a growth: for each host its points.
+struct Grown<'a> {
+    growth: &'static Growth,
+    hosts: Vec<(&'static str, Vec<Point<'a>>)>,
 }
 
-/// Measures each growth.
-pub fn all() -> Vec<Grown> {
-    GROWTHS.iter().map(measured).collect()
+impl Growing {
+    pub fn new() -> Self {
+        let growths = GROWTHS.iter().map(|growth| {
+            let cases = |style| {
+                let numbers = growth.at.iter();
+                numbers.map(move |&at| Case::new(style, growth, at))
+            };
+            (growth, STYLES.iter().flat_map(cases).collect())
+        });
+        Growing(growths.collect())
+    }
+
+    fn grown<'a>(&self, measured: &'a [Vec<Measured>]) -> Vec<Grown<'a>> {
+        let mut measured = measured.iter();
+        let growths = self.0.iter().map(|(growth, cases)| {
+            let mut points = cases
+                .iter()
+                .zip(measured.by_ref())
+                .map(|(case, ways)| Point {
+                    at: vec![case.at],
+                    ways,
+                });
+            let mut next = || points.by_ref().take(growth.at.len()).collect();
+            Grown {
+                growth,
+                hosts: STYLES.iter().map(|style| (style.name, next())).collect(),
+            }
+        });
+        growths.collect()
+    }
+
+    pub fn plot(&self, measured: &[Vec<Measured>]) -> String {
+        let panels: Vec<Panel> = self.grown(measured).iter().map(Grown::panel).collect();
+        let title = "What a merge costs as it grows";
+        plot::svg(title, "nanoseconds a record", &panels, &KEYS)
+    }
 }
 
-impl Grown {
+impl Comparison for Growing {
+    fn groups(&self) -> Vec<Group<'_>> {
+        let cases = self.0.iter().flat_map(|(_, cases)| cases);
+        cases.map(Case::group).collect()
+    }
+
+    fn tables(&self, measured: &[Vec<Measured>]) -> Vec<Table> {
+        let grown = self.grown(measured);
+        grown.iter().flat_map(Grown::tables).collect()
+    }
+}
+
+impl Grown<'_> {
     fn panel(&self) -> Panel {
         let ours = self.hosts.iter().map(|(_, points)| line(points, 0));
         let others = [1, 2].map(|way| line(&self.hosts[0].1, way));
@@ -236,14 +255,17 @@ impl Grown {
         }
     }
 
-    pub fn tables(&self) -> impl Iterator<Item = Table> + '_ {
-        self.hosts.iter().map(|(host, points)| {
-            of_series(
-                &format!("Merging, by {}, {host}", self.growth.heading),
-                &format!("{} Nanoseconds a record.", self.growth.words),
-                &[self.growth.number],
-                points,
-            )
-        })
+    fn tables(&self) -> Vec<Table> {
+        let hosts = self.hosts.iter();
+        hosts
+            .map(|(host, points)| {
+                of_series(
+                    &format!("Merging, by {}, {host}", self.growth.heading),
+                    &format!("{} Nanoseconds a record.", self.growth.words),
+                    &[self.growth.number],
+                    points,
+                )
+            })
+            .collect()
     }
 }

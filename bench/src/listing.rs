@@ -1,8 +1,9 @@
 //! Listing the tokens of a long text.
 
 use crate::by_hand;
+use crate::comparison::Comparison;
 use crate::inputs::{runs, Run};
-use crate::measure::{compare, Group, Measured, Subject};
+use crate::measure::{Group, Measured, Subject};
 use crate::other_crates;
 use crate::ours;
 use crate::table::{of_ways, thousands, Table};
@@ -183,10 +184,21 @@ impl Case {
     }
 }
 
-/// Compares the readers of each language.
-pub fn tables() -> Vec<Table> {
-    let cases: Vec<Case> = LANGUAGES.iter().map(Case::new).collect();
-    let measured = compare(cases.iter().map(Case::group).collect());
-    let cases = cases.iter().zip(&measured);
-    cases.map(|(case, measured)| case.table(measured)).collect()
+pub struct Listing(Vec<Case>);
+
+impl Listing {
+    pub fn new() -> Self {
+        Listing(LANGUAGES.iter().map(Case::new).collect())
+    }
+}
+
+impl Comparison for Listing {
+    fn groups(&self) -> Vec<Group<'_>> {
+        self.0.iter().map(Case::group).collect()
+    }
+
+    fn tables(&self, measured: &[Vec<Measured>]) -> Vec<Table> {
+        let cases = self.0.iter().zip(measured);
+        cases.map(|(case, measured)| case.table(measured)).collect()
+    }
 }

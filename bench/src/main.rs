@@ -4,6 +4,7 @@
 
 mod by_hand;
 mod checking;
+mod comparison;
 mod growing;
 mod inputs;
 mod listing;
@@ -17,6 +18,11 @@ mod sketch;
 mod table;
 mod ways;
 
+use checking::Checking;
+use comparison::Comparison;
+use growing::Growing;
+use listing::Listing;
+use merging::Merging;
 use std::path::Path;
 use std::{fs, io};
 
@@ -36,21 +42,20 @@ fn preface() -> String {
 
 fn main() -> io::Result<()> {
     let mut results = preface();
-    let mut show = |tables: Vec<table::Table>| {
-        for table in tables {
+    let (merging, listing) = (Merging::new(), Listing::new());
+    let (checking, growing) = (Checking::new(), Growing::new());
+    let comparisons: [&dyn Comparison; 4] = [&merging, &listing, &checking, &growing];
+    let measured = comparison::measured(comparisons);
+    for (comparison, measured) in comparisons.iter().zip(&measured) {
+        for table in comparison.tables(measured) {
             print!("{table}");
             results += &table.to_string();
         }
-    };
-    show(merging::tables());
-    show(listing::tables());
-    show(checking::tables());
-    let grown = growing::all();
-    show(grown.iter().flat_map(|grown| grown.tables()).collect());
+    }
     let folder = Path::new(env!("CARGO_MANIFEST_DIR"));
     fs::write(
         folder.join("RESULTS.md"),
         results.trim_end().to_owned() + "\n",
     )?;
-    fs::write(folder.join("cost.svg"), growing::plot(&grown))
+    fs::write(folder.join("cost.svg"), growing.plot(&measured[3]))
 }

@@ -2,8 +2,10 @@
 
 use std::time::{Duration, Instant};
 
-const BATCH: Duration = Duration::from_millis(5);
-pub const BATCHES: usize = 21;
+/// Short, so that there are many: a machine that does other work too is slower for a while, time and again, and the median is
+/// steady only where each subject has met that in about the same share of its batches.
+const BATCH: Duration = Duration::from_millis(2);
+pub const BATCHES: usize = 51;
 
 /// One way to do the work that is compared.
 pub struct Subject<'a> {

@@ -1,8 +1,9 @@
 //! Merging a file of records into a template of everyday size.
 
 use crate::by_hand::{self, Fill, Values};
+use crate::comparison::Comparison;
 use crate::inputs::{file_of, runs, Run};
-use crate::measure::{compare, Group, Measured};
+use crate::measure::{Group, Measured};
 use crate::other_crates;
 use crate::ours;
 use crate::table::{of_ways, thousands, Table};
@@ -92,22 +93,24 @@ fn words(lines: &[u8]) -> Vec<Vec<String>> {
 }
 
 /// The ways of a host with what they are given.
-struct Case<'a> {
+struct Case {
     everyday: &'static Everyday,
-    runs: &'a [Run],
-    file: &'a [u8],
+    runs: Vec<Run>,
+    file: Vec<u8>,
     texts: Vec<Vec<u8>>,
 }
 
 const SAME: &str = "same bytes";
 
-impl<'a> Case<'a> {
-    fn new(everyday: &'static Everyday, runs: &'a [Run], file: &'a [u8]) -> Self {
+impl Case {
+    fn new(everyday: &'static Everyday) -> Self {
+        let runs = runs(RECORDS);
+        let file = file_of(&runs);
         Case {
             everyday,
+            texts: ours::texts_of(everyday.host, everyday.template, &file),
             runs,
             file,
-            texts: ours::texts_of(everyday.host, everyday.template, file),
         }
     }
 
@@ -115,14 +118,14 @@ impl<'a> Case<'a> {
     fn ways(&self) -> Vec<(Way<'_>, &'static str)> {
         let everyday = self.everyday;
         let mut ways = vec![
-            ours::merging(everyday.host, everyday.template, self.file),
-            reading_by_hand(everyday.by_hand, self.file),
-            by_hand(everyday.by_hand, self.runs),
-            by_tera(everyday, self.runs),
+            ours::merging(everyday.host, everyday.template, &self.file),
+            reading_by_hand(everyday.by_hand, &self.file),
+            by_hand(everyday.by_hand, &self.runs),
+            by_tera(everyday, &self.runs),
             Way::copying(&self.texts),
         ];
         if everyday.host == Host::Csv {
-            ways.insert(4, by_csv(self.runs));
+            ways.insert(4, by_csv(&self.runs));
         }
         let text = self.texts.concat();
         for way in &mut ways {
@@ -130,7 +133,7 @@ impl<'a> Case<'a> {
         }
         let mut ways: Vec<_> = ways.into_iter().map(|way| (way, SAME)).collect();
         if everyday.host == Host::Shell {
-            let mut way = by_shell_words(self.runs);
+            let mut way = by_shell_words(&self.runs);
             assert!(words(&way.text()) == words(&text), "other words");
             ways.insert(4, (way, "same words, quotes only where needed"));
         }
@@ -162,15 +165,21 @@ impl<'a> Case<'a> {
     }
 }
 
-/// Compares the ways of each host.
-pub fn tables() -> Vec<Table> {
-    let runs = runs(RECORDS);
-    let file = file_of(&runs);
-    let cases: Vec<Case> = EVERYDAY
-        .iter()
-        .map(|everyday| Case::new(everyday, &runs, &file))
-        .collect();
-    let measured = compare(cases.iter().map(Case::group).collect());
-    let cases = cases.iter().zip(&measured);
-    cases.map(|(case, measured)| case.table(measured)).collect()
+pub struct Merging(Vec<Case>);
+
+impl Merging {
+    pub fn new() -> Self {
+        Merging(EVERYDAY.iter().map(Case::new).collect())
+    }
+}
+
+impl Comparison for Merging {
+    fn groups(&self) -> Vec<Group<'_>> {
+        self.0.iter().map(Case::group).collect()
+    }
+
+    fn tables(&self, measured: &[Vec<Measured>]) -> Vec<Table> {
+        let cases = self.0.iter().zip(measured);
+        cases.map(|(case, measured)| case.table(measured)).collect()
+    }
 }

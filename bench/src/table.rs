@@ -89,9 +89,9 @@ pub fn of_ways(
 }
 
 /// One row of a series: the numbers that it is for, and the ways, the first of them ours.
-pub struct Point {
+pub struct Point<'a> {
     pub at: Vec<usize>,
-    pub ways: Vec<Measured>,
+    pub ways: &'a [Measured],
 }
 
 /// A table in which one thing grows from row to row.
