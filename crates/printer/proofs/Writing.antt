@@ -84,6 +84,14 @@ overlaid_byte [] at b h = absurd (omega arith)
 overlaid_byte (x ∷ xs) zero b h = ap (λ l. b ∷ l) (sym (overlaid_none xs zero))
 overlaid_byte (x ∷ xs) (suc at) b h = ap (λ l. x ∷ l) (overlaid_byte xs at b (omega arith))
 
+-- bytes from the byte i on
+module _ (old : List ℕ) (at : ℕ) (bs : List ℕ) (i : ℕ) where
+  pub overlaid_step : i < length bs → overlaid (overlaid old at (get_or bs i 0 ∷ [])) (at + 1) (drop (i + 1) bs) ≡ overlaid old at (drop i bs)
+  overlaid_step lt = overlaid_more old at (at + 1) (get_or bs i 0 ∷ []) (drop (i + 1) bs) refl ∙ sym (at_drop_more (λ l. overlaid old at l) bs i 0 lt)
+
+  pub overlaid_done : length bs ≤ i → overlaid old at (drop i bs) ≡ old
+  overlaid_done le = at_drop_all (λ l. overlaid old at l) bs i le ∙ overlaid_none old at
+
 pub onward_none : (at : ℕ) (out : List ℕ) → onward at out (Ok []) ≡ Ok (at, out)
 onward_none at out = rw (overlaid_none out at) (ap (λ n. Ok (n, out)) (omega arith))
 

@@ -19,9 +19,10 @@ pub struct Page {
 
 impl Page {
     // Adds a byte, and writes it if the output has a place for it.
+    #[inline(always)]
     #[tactic(auto, using(crate::proofs::Writing::overlaid_byte, crate::proofs::Writing::overlaid_past))]
     pub fn push(&mut self, byte: u8, out: &mut [u8])
-        requires { self.old.end < 2 ^ 32 }
+        requires { self.old.end + 1 < 2 ^ 64 }
         ensures end { self.new.end ≡ self.old.end + 1 }
         ensures output { out.new ≡ overlaid out.old self.old.end (byte ∷ []) }
     {
@@ -31,18 +32,17 @@ impl Page {
         self.end += 1;
     }
 
-    // Adds bytes, and writes as many of them as the output has places for.
-    #[tactic(auto, using(crate::proofs::Writing::overlaid_copy, crate::proofs::Writing::overlaid_past))]
+    // Adds bytes, and writes as many of them as the output has places for. They are few, so each is written by itself.
+    #[inline(always)]
+    #[tactic(auto, using(crate::proofs::Writing::overlaid_step, crate::proofs::Writing::overlaid_done))]
     pub fn put(&mut self, bytes: &[u8], out: &mut [u8])
         requires { self.old.end < 2 ^ 32 }
         ensures end { self.new.end ≡ self.old.end + length bytes.now }
         ensures output { out.new ≡ overlaid out.old self.old.end bytes.now }
     {
-        if self.end < out.len() {
-            let room = bytes.len().min(out.len() - self.end);
-            out[self.end..self.end + room].copy_from_slice(&bytes[..room]);
+        for byte in bytes {
+            self.push(*byte, out);
         }
-        self.end += bytes.len();
     }
 
     // Adds the value of a hole as its body spells it.
