@@ -1,13 +1,13 @@
 -- One turn of reading a record. Assumes nothing.
 use Rattle.std.proofs.Common.{◌≡◌, ℕ, zero, suc, ◌+◌, ◌-◌, ◌<◌, ◌≤◌, true, false, List, [], ◌∷◌, ◌++◌, Ok, Err, length, take, drop, set, replicate, is_some, All, sym, refl, ap, ◌∙◌, subst, arith}
 use Rattle.std.proofs.lemmas.List.{drop-drop, drop-set-lt, drop-replicate, take_more_set, map_push, length-set}
-use Rattle.std.proofs.lemmas.List.Elements.{All-push}
+use Rattle.std.proofs.lemmas.List.Elements.{All-nil, All-push}
 use Rattle.record.specs.declared.shape.Entry.{Entry}
 use Rattle.fault.specs.declared.fault.Fault.{Fault}
 use Rattle.fault.specs.declared.fault.Fault.TheVariants.{NameTwice}
 use Rattle.record.specs.declared.field.Head.TheVariants.{Name, End}
 use Rattle.record.specs.Format.{Pair}
-use Rattle.record.specs.Reading.{Answer, found, faulty, body, head_of, value_of, named, with_value, reads}
+use Rattle.record.specs.Reading.{Answer, found, faulty, body, head_of, value_of, named, with_value, reads, read_at}
 use Rattle.record.specs.Answers.{pair_of, pairs_of, value_span, Lies, InARow, blank_entry, BlankAfter}
 use Rattle.record.proofs.Spans.{span_named}
 
@@ -111,3 +111,9 @@ module _ {input : List ℕ} {start : ℕ} {whole : Answer} {es : List Entry} {co
             rest = drop-set-lt (count + 1) es count e' (omega arith) ∙ sym (drop-drop 1 count es) ∙ ap (drop 1) s.rest ∙ drop-replicate 1 (64 - count) blank_entry ∙ ap (λ k. replicate k blank_entry) fewer;
             left = cc;
           }
+
+-- before the first entry
+pub at_start : (input : List ℕ) (start : ℕ) (es : List Entry) (count : ℕ) → count ≡ 0 → BlankAfter 0 es → length es ≡ 64 → start < length input → Sofar input start (read_at input start) es count start
+at_start input start es count none rest sized inside =
+    let left : reads 64 [] start (drop start input) ≡ read_at input start = grind arith in
+    subst (λ n. Sofar input start (read_at input start) es n start) (sym none) (record { few = omega arith; sized = sized; inside = omega arith; lie = All-nil _; row = refl; rest = rest; left = left })

@@ -1,7 +1,7 @@
 // Records of pairs of a name and a value, as fields of a tag, a length and bytes.
 #![tactic(auto)]
 
-ghost use Rattle.std.specs.Prelude.{◌≡◌, ◌<◌, length, IfOk, IfSome};
+ghost use Rattle.std.specs.Prelude.{◌≡◌, ◌<◌, true, length, IfOk};
 ghost use Rattle.record.specs.Answers.{answer, answer_pairs, answer_read, BlankAfter, Laid, PairsLie, Within};
 ghost use Rattle.record.specs.Law.{Law};
 ghost use Rattle.record.specs.Reading.{read_at};
@@ -38,28 +38,42 @@ fn blank(state: State, fault: Fault) -> shape::Record
 
 // The pairs of a record: the first `count` entries, and the place of the end's tag after them.
 // Their number stands beside the table as in the answer that they become: in another form they would be copied over.
+#[derive(Drop)]
 struct Pairs {
     entries: [Entry; MAX_PAIRS],
     count: usize,
     end: usize,
 }
 
-// Reads pair after pair, each a name and a value, until the end.
-fn read_pairs(input: &[u8], place: usize) -> Result<Pairs, Fault>
-    requires { place < length input.now }
-    ensures reads { answer_pairs input.now result ≡ read_at input.now place }
-    ensures lie { IfOk result (λ pairs. PairsLie place (length input.now) pairs) }
+impl Pairs {
+    fn none() -> Pairs
+        ensures count { result.count ≡ 0 }
+        ensures entries { BlankAfter 0 result.entries }
+    {
+        Pairs {
+            entries: [Entry::default(); MAX_PAIRS],
+            count: 0,
+            end: 0,
+        }
+    }
+}
+
+// Reads pair after pair, each a name and a value, until the end. The pairs are lent, since a table that is handed back is copied.
+fn read_pairs(input: &[u8], place: usize, pairs: &mut Pairs) -> Result<(), Fault>
+    requires within { place < length input.now }
+    requires count { pairs.old.count ≡ 0 }
+    requires entries { BlankAfter 0 pairs.old.entries }
+    ensures reads { answer_pairs input.now result pairs.new ≡ read_at input.now place }
+    ensures lie { IfOk result (λ done. PairsLie place (length input.now) pairs.new) }
 {
-    let mut entries = [Entry::default(); MAX_PAIRS];
-    let mut count = 0;
     let mut at = place;
     // Each field says where the next one is, so there is no row of them to go over.
     while let Head::Name(len) = judge_head(&input[at..], at)? {
-        if count == MAX_PAIRS {
+        if pairs.count == MAX_PAIRS {
             return Err(Fault::TooManyNames { place: at });
         }
         let name = Span { place: at + 3, len };
-        if find_in(input, &entries[..count], part(input, name)).is_some() {
+        if find_in(input, &pairs.entries[..pairs.count], part(input, name)).is_some() {
             return Err(Fault::NameTwice { place: at });
         }
         let due = name.place + name.len;
@@ -67,30 +81,29 @@ fn read_pairs(input: &[u8], place: usize) -> Result<Pairs, Fault>
             place: due + 3,
             len: judge_value(&input[due..], due)?,
         };
-        entries[count] = Entry { name, value };
-        count += 1;
+        pairs.entries[pairs.count] = Entry { name, value };
+        pairs.count += 1;
         at = value.place + value.len;
     }
-    Ok(Pairs {
-        entries,
-        count,
-        end: at,
-    })
+    pairs.end = at;
+    Ok(())
 }
 
-// What stands at a place of the input: the pairs of a record, or nothing at the input's end.
-fn read_from(input: &[u8], place: usize) -> Result<Option<Pairs>, Fault>
-    ensures reads { answer_read input.now result ≡ read_at input.now place }
-    ensures lie { IfOk result (λ read. IfSome read (λ pairs. PairsLie place (length input.now) pairs)) }
+// Whether a record stands at a place of the input, which then gives the pairs, or the input ends there.
+fn read_from(input: &[u8], place: usize, pairs: &mut Pairs) -> Result<bool, Fault>
+    requires count { pairs.old.count ≡ 0 }
+    requires entries { BlankAfter 0 pairs.old.entries }
+    ensures reads { answer_read input.now result pairs.new ≡ read_at input.now place }
+    ensures lie { IfOk result (λ there. there ≡ true → PairsLie place (length input.now) pairs.new) }
 {
     if place > input.len() {
         return Err(Fault::FieldCutShort { place: input.len() });
     }
     if place == input.len() {
-        return Ok(None);
+        return Ok(false);
     }
-    let pairs = read_pairs(input, place)?;
-    Ok(Some(pairs))
+    read_pairs(input, place, pairs)?;
+    Ok(true)
 }
 
 // The record at a place of the input: its pairs, or that the input ends there, or why it is refused.
@@ -101,8 +114,9 @@ pub fn record(input: &[u8], place: usize) -> shape::Record
     ensures laid { Laid place result }
     ensures law { Law input.now place (answer input.now result) }
 {
-    match read_from(input, place) {
-        Ok(Some(pairs)) => {
+    let mut pairs = Pairs::none();
+    match read_from(input, place, &mut pairs) {
+        Ok(true) => {
             let Pairs {
                 entries,
                 count,
@@ -117,7 +131,7 @@ pub fn record(input: &[u8], place: usize) -> shape::Record
                 fault: Fault::FieldCutShort { place: end },
             }
         }
-        Ok(None) => blank(State::End, Fault::FieldCutShort { place: 0 }),
+        Ok(false) => blank(State::End, Fault::FieldCutShort { place: 0 }),
         Err(fault) => blank(State::Refused, fault),
     }
 }

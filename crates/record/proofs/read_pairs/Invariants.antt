@@ -4,7 +4,7 @@ use Rattle.record.proofs.Turns.{Sofar}
 use Rattle.record.proofs.read_pairs.Given as goal
 
 abbrev pub invariant-loop-len : goal.invariant-loop-len
-invariant-loop-len l = Sofar l.input l.place (read_at l.input l.place) l.entries l.count l.at
+invariant-loop-len l = Sofar l.input l.place (read_at l.input l.place) l.pairs.entries l.pairs.count l.at
 
 abbrev pub decreases-loop-len : goal.decreases-loop-len
-decreases-loop-len l = 64 - l.count
+decreases-loop-len l = 64 - l.pairs.count
