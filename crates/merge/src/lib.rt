@@ -77,8 +77,7 @@ fn fill_in<H: Host>(
     ensures text { out.new ≡ laid_over out.old (with_pairs (H.meaning host.now) (survey_of survey.now) checked.entry.template.now survey.now.bodies.len (length out.old) (source_pairs source.now) source.now.found.now.end source.now.found.now.next) }
 {
     let template = checked.template();
-    let mut table = BorrowedTable::new();
-    let mut filling = open_borrowed(checked, &mut table);
+    let (mut filling, mut table) = open_borrowed(checked);
     bind_all(template, &mut filling, &mut table, host, survey, source)?;
     filling.judge_finish()?;
     let len = filling

@@ -31,20 +31,13 @@ pub struct BorrowedTable<'v> {
 
 impl<'v> BorrowedTable<'v> {
     // A table of rows that hold nothing.
-    pub fn new() -> BorrowedTable<'v>
+    pub(crate) fn new() -> BorrowedTable<'v>
         ensures { rows_in result.rows ≡ blank 64 }
     {
         let row = BorrowedRow::empty();
         BorrowedTable {
             rows: [row; MAX_HOLES],
         }
-    }
-
-    // Makes every row hold nothing.
-    pub(crate) fn clear(&mut self)
-        ensures { rows_in self.new.rows ≡ blank 64 }
-    {
-        *self = BorrowedTable::new();
     }
 
     // Makes a row hold the value, and leaves the others. The value is a slice of the caller's, so its bound is asked for.

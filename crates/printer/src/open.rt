@@ -23,13 +23,11 @@ pub fn open<'t, H: Host>(checked: Checked<'t>, sheet: &mut Sheet<H>) -> Filling<
     Filling::new(template, holes)
 }
 
-// The same on a table that borrows the values.
-pub fn open_borrowed<'t>(checked: Checked<'t>, table: &mut BorrowedTable<'_>) -> Filling<'t>
-    ensures template { result.template.now ≡ checked.entry.template.now }
-    ensures state { borrowed_state result table.new ≡ opened checked.entry.holes }
+// Starts a filling likewise with a table of its own, which borrows the values, in place of a sheet.
+pub fn open_borrowed<'t, 'v>(checked: Checked<'t>) -> (Filling<'t>, BorrowedTable<'v>)
+    ensures template { result.0.template.now ≡ checked.entry.template.now }
+    ensures state { borrowed_state result.0 result.1 ≡ opened checked.entry.holes }
 {
-    let template = checked.template();
-    let holes = checked.holes();
-    table.clear();
-    Filling::new(template, holes)
+    let filling = Filling::new(checked.template(), checked.holes());
+    (filling, BorrowedTable::new())
 }
