@@ -103,6 +103,7 @@ fn is_escaped(byte: u8) -> bool
 }
 
 // Between words: a blank is passed over, an operator is a token of its own, any other byte begins a word.
+#[inline(always)]
 fn at_gap(byte: u8) -> Result<Move, Refused>
     ensures { answered result ≡ stepped gap byte }
 {
@@ -124,6 +125,7 @@ fn at_gap(byte: u8) -> Result<Move, Refused>
 }
 
 // In a word: quotes and backslashes belong to it, and a blank or an operator ends it.
+#[inline(always)]
 fn at_word(byte: u8) -> Result<Move, Refused>
     ensures { answered result ≡ stepped in_word byte }
 {
