@@ -36,44 +36,24 @@ fn blank(state: State, fault: Fault) -> shape::Record
     }
 }
 
-// The pairs of a record: the first `count` entries, and the place of the end's tag after them.
-// Their number stands beside the table as in the answer that they become: in another form they would be copied over.
-#[derive(Drop)]
-struct Pairs {
-    entries: [Entry; MAX_PAIRS],
-    count: usize,
-    end: usize,
-}
-
-impl Pairs {
-    fn none() -> Pairs
-        ensures count { result.count ≡ 0 }
-        ensures entries { BlankAfter 0 result.entries }
-    {
-        Pairs {
-            entries: [Entry::default(); MAX_PAIRS],
-            count: 0,
-            end: 0,
-        }
-    }
-}
-
-// Reads pair after pair, each a name and a value, until the end. The pairs are lent, since a table that is handed back is copied.
-fn read_pairs(input: &[u8], place: usize, pairs: &mut Pairs) -> Result<(), Fault>
+// Reads pair after pair, each a name and a value, until the end. The answer that gets them is lent: a table that is handed back
+// is copied.
+fn read_pairs(input: &[u8], place: usize, found: &mut shape::Record) -> Result<(), Fault>
     requires within { place < length input.now }
-    requires count { pairs.old.count ≡ 0 }
-    requires entries { BlankAfter 0 pairs.old.entries }
-    ensures reads { answer_pairs input.now result pairs.new ≡ read_at input.now place }
-    ensures lie { IfOk result (λ done. PairsLie place (length input.now) pairs.new) }
+    requires count { found.old.count ≡ 0 }
+    requires entries { BlankAfter 0 found.old.entries }
+    ensures reads { answer_pairs input.now result found.new ≡ read_at input.now place }
+    ensures lie { IfOk result (λ done. PairsLie place (length input.now) found.new) }
+    ensures state { found.new.state ≡ found.old.state }
 {
     let mut at = place;
     // Each field says where the next one is, so there is no row of them to go over.
     while let Head::Name(len) = judge_head(&input[at..], at)? {
-        if pairs.count == MAX_PAIRS {
+        if found.count == MAX_PAIRS {
             return Err(Fault::TooManyNames { place: at });
         }
         let name = Span { place: at + 3, len };
-        if find_in(input, &pairs.entries[..pairs.count], part(input, name)).is_some() {
+        if find_in(input, &found.entries[..found.count], part(input, name)).is_some() {
             return Err(Fault::NameTwice { place: at });
         }
         let due = name.place + name.len;
@@ -81,20 +61,23 @@ fn read_pairs(input: &[u8], place: usize, pairs: &mut Pairs) -> Result<(), Fault
             place: due + 3,
             len: judge_value(&input[due..], due)?,
         };
-        pairs.entries[pairs.count] = Entry { name, value };
-        pairs.count += 1;
+        found.entries[found.count] = Entry { name, value };
+        found.count += 1;
         at = value.place + value.len;
     }
-    pairs.end = at;
+    found.end = at;
+    found.next = at + 3;
+    found.fault = Fault::FieldCutShort { place: at };
     Ok(())
 }
 
 // Whether a record stands at a place of the input, which then gives the pairs, or the input ends there.
-fn read_from(input: &[u8], place: usize, pairs: &mut Pairs) -> Result<bool, Fault>
-    requires count { pairs.old.count ≡ 0 }
-    requires entries { BlankAfter 0 pairs.old.entries }
-    ensures reads { answer_read input.now result pairs.new ≡ read_at input.now place }
-    ensures lie { IfOk result (λ there. there ≡ true → PairsLie place (length input.now) pairs.new) }
+fn read_from(input: &[u8], place: usize, found: &mut shape::Record) -> Result<bool, Fault>
+    requires count { found.old.count ≡ 0 }
+    requires entries { BlankAfter 0 found.old.entries }
+    ensures reads { answer_read input.now result found.new ≡ read_at input.now place }
+    ensures lie { IfOk result (λ there. there ≡ true → PairsLie place (length input.now) found.new) }
+    ensures state { found.new.state ≡ found.old.state }
 {
     if place > input.len() {
         return Err(Fault::FieldCutShort { place: input.len() });
@@ -102,7 +85,7 @@ fn read_from(input: &[u8], place: usize, pairs: &mut Pairs) -> Result<bool, Faul
     if place == input.len() {
         return Ok(false);
     }
-    read_pairs(input, place, pairs)?;
+    read_pairs(input, place, found)?;
     Ok(true)
 }
 
@@ -114,23 +97,9 @@ pub fn record(input: &[u8], place: usize) -> shape::Record
     ensures laid { Laid place result }
     ensures law { Law input.now place (answer input.now result) }
 {
-    let mut pairs = Pairs::none();
-    match read_from(input, place, &mut pairs) {
-        Ok(true) => {
-            let Pairs {
-                entries,
-                count,
-                end,
-            } = pairs;
-            shape::Record {
-                state: State::Found,
-                count,
-                entries,
-                end,
-                next: end + 3,
-                fault: Fault::FieldCutShort { place: end },
-            }
-        }
+    let mut found = blank(State::Found, Fault::FieldCutShort { place: 0 });
+    match read_from(input, place, &mut found) {
+        Ok(true) => found,
         Ok(false) => blank(State::End, Fault::FieldCutShort { place: 0 }),
         Err(fault) => blank(State::Refused, fault),
     }
