@@ -18,6 +18,7 @@ use shape::{Entry, MAX_PAIRS, Span, State};
 use table::{find_in, part};
 
 // An answer that has no entries.
+#[inline(always)]
 fn blank(state: State, fault: Fault) -> shape::Record
     ensures state { result.state ≡ state }
     ensures fault { result.fault ≡ fault }
@@ -72,6 +73,7 @@ fn read_pairs(input: &[u8], place: usize, found: &mut shape::Record) -> Result<(
 }
 
 // Whether a record stands at a place of the input, which then gives the pairs, or the input ends there.
+#[inline(always)]
 fn read_from(input: &[u8], place: usize, found: &mut shape::Record) -> Result<bool, Fault>
     requires count { found.old.count ≡ 0 }
     requires entries { BlankAfter 0 found.old.entries }
@@ -91,6 +93,7 @@ fn read_from(input: &[u8], place: usize, found: &mut shape::Record) -> Result<bo
 
 // The record at a place of the input: its pairs, or that the input ends there, or why it is refused.
 #[tactic(auto, using(crate::proofs::Laws::law_of))]
+#[inline(always)]
 pub fn record(input: &[u8], place: usize) -> shape::Record
     ensures reads { answer input.now result ≡ read_at input.now place }
     ensures within { Within (length input.now) result }
