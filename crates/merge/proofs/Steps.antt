@@ -1,9 +1,9 @@
 -- From the answers of the calls that a merge makes to what it comes to.
-use Rattle.std.proofs.Common.{◌≡◌, ℕ, ◌+◌, List, ◌∷◌, Some, Ok, Err, Result, sym, refl, ap, ◌∙◌}
+use Rattle.std.proofs.Common.{◌≡◌, ℕ, ◌+◌, List, ◌∷◌, Some, None, Ok, Err, Result, sym, refl, ap, ◌∙◌}
 use Rattle.host.specs.Meaning.{Meaning}
 use Rattle.host.specs.Answers.{bytes_of}
 use Rattle.host.specs.Run.{Item, literal, hole as gap}
-use Rattle.fault.specs.Refusal.{Refusal}
+use Rattle.fault.specs.Refusal.{Refusal, refusal_of}
 use Rattle.template.specs.declared.survey.Survey.{Survey}
 use Rattle.template.specs.Items.{names_in, names}
 use Rattle.template.specs.Judging.{Verdict, contexts_in, verdict, survey_of}
@@ -12,7 +12,7 @@ use Rattle.template.proofs.Accepted.{accepted_is}
 use Rattle.template.proofs.Reading.{items_of, nothing, chain_some}
 use Rattle.record.specs.declared.shape.Record.{Record}
 use Rattle.record.specs.declared.shape.State.{State as FoundOrNot}
-use Rattle.record.specs.declared.shape.State.TheVariants.{Found}
+use Rattle.record.specs.declared.shape.State.TheVariants.{Found, End, Refused}
 use Rattle.record.specs.Answers.{value_of, answer, by_state}
 use Rattle.record.specs.Reading.{read_at}
 use Rattle.record.specs.Format.{Pair}
@@ -53,6 +53,17 @@ unprinted m v t s room q judged there e = go (printed m v t room) (e ∙ ap weig
 -- a record that was found is merged under the verdict of a survey
 pub comes_found : (m : Meaning) (t input : List ℕ) (place room : ℕ) (s : Survey) → verdict m t ≡ survey_of s → (r : Record) → r.state ≡ Found → answer input r ≡ read_at input place → merged m t input place room ≡ after (λ y. Some y) (with_pairs m (survey_of s) t s.bodies.len room (record_pairs input r) r.end r.next)
 comes_found m t input place room s judged r is reads =
+    ap (λ (d : Verdict). merged_by d m t input place room) judged
+    ∙ ap (with_record m (survey_of s) t s.bodies.len room) (sym reads ∙ ap (λ (x : FoundOrNot). by_state x input r) is)
+
+-- and so is one that is refused, and the input's end
+pub comes_none : (m : Meaning) (t input : List ℕ) (place room : ℕ) (s : Survey) → verdict m t ≡ survey_of s → (r : Record) → r.state ≡ End → answer input r ≡ read_at input place → merged m t input place room ≡ Ok None
+comes_none m t input place room s judged r is reads =
+    ap (λ (d : Verdict). merged_by d m t input place room) judged
+    ∙ ap (with_record m (survey_of s) t s.bodies.len room) (sym reads ∙ ap (λ (x : FoundOrNot). by_state x input r) is)
+
+pub comes_refused : (m : Meaning) (t input : List ℕ) (place room : ℕ) (s : Survey) → verdict m t ≡ survey_of s → (r : Record) → r.state ≡ Refused → answer input r ≡ read_at input place → merged m t input place room ≡ Err (refusal_of r.fault)
+comes_refused m t input place room s judged r is reads =
     ap (λ (d : Verdict). merged_by d m t input place room) judged
     ∙ ap (with_record m (survey_of s) t s.bodies.len room) (sym reads ∙ ap (λ (x : FoundOrNot). by_state x input r) is)
 

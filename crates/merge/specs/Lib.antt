@@ -1,3 +1,4 @@
 pub mod Merging
 pub mod Answers
 pub mod Law
+pub mod Many

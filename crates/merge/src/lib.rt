@@ -11,6 +11,7 @@ ghost use Rattle.merge.specs.Answers.{merged_of, completed_of, weighed, weighed_
 ghost use Rattle.merge.specs.Law.{ReadsAsRecord, WhereMerged};
 ghost use Rattle.merge.specs.Merging.{with_pairs, merged};
 
+pub mod many;
 pub mod merged;
 mod source;
 
@@ -64,17 +65,17 @@ fn bind_all<'v, H: Host>(
 // Opens a filling of the template, binds its holes, finishes and prints it. The values stay in the input, where they lie.
 #[tactic(auto, using(crate::proofs::Steps::pieces_bound))]
 fn fill_in<H: Host>(
-    checked: Checked<'_>,
+    checked: &Checked<'_>,
     survey: &Survey,
     host: &H,
     source: &Source<'_>,
     out: &mut [u8],
 ) -> Result<Merged, Fault>
-    requires survey { verdict (H.meaning host.now) checked.template.now ≡ survey_of survey.now }
-    requires holes { checked.holes ≡ survey.now.bodies.len }
-    requires contexts { bytes_of survey.now.contexts ≡ contexts_in (H.meaning host.now) (lexed_from checked.template.now 0) 0 }
-    ensures answer { completed_of result ≡ weighed_one (with_pairs (H.meaning host.now) (survey_of survey.now) checked.entry.template.now survey.now.bodies.len (length out.old) (source_pairs source.now) source.now.found.now.end source.now.found.now.next) }
-    ensures text { out.new ≡ laid_over out.old (with_pairs (H.meaning host.now) (survey_of survey.now) checked.entry.template.now survey.now.bodies.len (length out.old) (source_pairs source.now) source.now.found.now.end source.now.found.now.next) }
+    requires survey { verdict (H.meaning host.now) checked.now.template.now ≡ survey_of survey.now }
+    requires holes { checked.now.holes ≡ survey.now.bodies.len }
+    requires contexts { bytes_of survey.now.contexts ≡ contexts_in (H.meaning host.now) (lexed_from checked.now.template.now 0) 0 }
+    ensures answer { completed_of result ≡ weighed_one (with_pairs (H.meaning host.now) (survey_of survey.now) checked.now.template.now survey.now.bodies.len (length out.old) (source_pairs source.now) source.now.found.now.end source.now.found.now.next) }
+    ensures text { out.new ≡ laid_over out.old (with_pairs (H.meaning host.now) (survey_of survey.now) checked.now.template.now survey.now.bodies.len (length out.old) (source_pairs source.now) source.now.found.now.end source.now.found.now.next) }
 {
     let template = checked.template();
     let (mut filling, mut table) = open_borrowed(checked);
@@ -89,9 +90,38 @@ fn fill_in<H: Host>(
     })
 }
 
+// Merges the record at a place of the input into a template that the host has accepted.
+#[tactic(auto, using(crate::proofs::Steps::comes_found, crate::proofs::Steps::comes_none, crate::proofs::Steps::comes_refused, crate::proofs::Steps::weighed_some, crate::proofs::Steps::written_some))]
+pub(crate) fn merge_checked<H: Host>(
+    checked: &Checked<'_>,
+    survey: &Survey,
+    host: &H,
+    input: &[u8],
+    place: usize,
+    out: &mut [u8],
+) -> Result<Option<Merged>, Fault>
+    requires survey { verdict (H.meaning host.now) checked.now.template.now ≡ survey_of survey.now }
+    requires holes { checked.now.holes ≡ survey.now.bodies.len }
+    requires contexts { bytes_of survey.now.contexts ≡ contexts_in (H.meaning host.now) (lexed_from checked.now.template.now 0) 0 }
+    ensures answer { merged_of result ≡ weighed (merged (H.meaning host.now) checked.now.template.now input.now place (length out.old)) }
+    ensures text { out.new ≡ written out.old (merged (H.meaning host.now) checked.now.template.now input.now place (length out.old)) }
+{
+    let found = record(input, place);
+    match found.state {
+        State::Found => {
+            let source = Source {
+                input,
+                found: &found,
+            };
+            fill_in(checked, survey, host, &source, out).map(Some)
+        }
+        State::End => Ok(None),
+        State::Refused => Err(found.fault),
+    }
+}
+
 // Merges the record at a place of the input into the template, for a caller that has a host and no sheet: the text is written
 // from the start of the output. Where the input ends there, or where it is refused, the output stays as it was.
-#[tactic(auto, using(crate::proofs::Steps::comes_found, crate::proofs::Steps::weighed_some, crate::proofs::Steps::written_some))]
 pub fn merge_under<H: Host>(
     template: Raw<'_>,
     host: &H,
@@ -104,18 +134,7 @@ pub fn merge_under<H: Host>(
     ensures law { WhereMerged result (λ x. ReadsAsRecord (H.meaning host.now) template.entry.template.now input.now place x.next (take x.len out.new)) }
 {
     let (checked, survey) = check_and_survey(template, host)?;
-    let found = record(input, place);
-    match found.state {
-        State::Found => {
-            let source = Source {
-                input,
-                found: &found,
-            };
-            fill_in(checked, &survey, host, &source, out).map(Some)
-        }
-        State::End => Ok(None),
-        State::Refused => Err(found.fault),
-    }
+    merge_checked(&checked, &survey, host, input, place, out)
 }
 
 // Merges likewise under the host of a sheet, and clears the sheet at the end in any case.

@@ -23,10 +23,11 @@ pub fn open<'t, H: Host>(checked: Checked<'t>, sheet: &mut Sheet<H>) -> Filling<
     Filling::new(template, holes)
 }
 
-// Starts a filling likewise with a table of its own, which borrows the values, in place of a sheet.
-pub fn open_borrowed<'t, 'v>(checked: Checked<'t>) -> (Filling<'t>, BorrowedTable<'v>)
-    ensures template { result.0.template.now ≡ checked.entry.template.now }
-    ensures state { borrowed_state result.0 result.1 ≡ opened checked.entry.holes }
+// Starts a filling likewise with a table of its own, which borrows the values, in place of a sheet. The checked template is left
+// with the caller, who may merge another record into it.
+pub fn open_borrowed<'t, 'v>(checked: &Checked<'t>) -> (Filling<'t>, BorrowedTable<'v>)
+    ensures template { result.0.template.now ≡ checked.now.template.now }
+    ensures state { borrowed_state result.0 result.1 ≡ opened checked.now.holes }
 {
     let filling = Filling::new(checked.template(), checked.holes());
     (filling, BorrowedTable::new())

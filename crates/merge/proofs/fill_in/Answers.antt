@@ -11,7 +11,7 @@ use Rattle.merge.proofs.fill_in.Goals as goal
 pub returns-in_err-len : goal.returns-in_err-len
 returns-in_err-len g c =
     let m = g.H.Host.meaning c.args.host.now in
-    let t = c.args.checked.template.now in
+    let t = c.args.checked.now.template.now in
     let v = value_at (rows_in c.bind_all.new.table.rows) in
     let room = length c.args.out.now in
     let q = refusal_of c.in_err-len.field-0.0 in
