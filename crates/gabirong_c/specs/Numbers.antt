@@ -6,6 +6,7 @@ use Rattle.gabirong_c.specs.declared.numbers.Refusal.{Refusal}
 use Rattle.gabirong_c.specs.declared.numbers.Checked.{Checked}
 use Rattle.gabirong_c.specs.declared.numbers.Listed.{Listed}
 use Rattle.gabirong_c.specs.declared.numbers.Merged.{Merged}
+use Rattle.gabirong_c.specs.declared.numbers.Merges.{Merges}
 
 -- A refusal: the hole is 0 where none is named, and so are number and place of what is carried where nothing is.
 abbrev pub in_numbers : fault.Refusal → Refusal
@@ -28,3 +29,7 @@ abbrev pub merged_in_numbers : Result (Option (ℕ × ℕ)) fault.Refusal → Me
 merged_in_numbers (Ok (Some x)) = record { refusal = no_refusal; found = true; next = x.0; len = x.1 }
 merged_in_numbers (Ok None) = record { refusal = no_refusal; found = false; next = 0; len = 0 }
 merged_in_numbers (Err r) = record { refusal = in_numbers r; found = false; next = 0; len = 0 }
+
+-- How many records, the next place and the length of the texts, and the refusal that stopped them, if one did.
+abbrev pub merges_in_numbers : ℕ × ℕ × ℕ × Option fault.Refusal → Merges
+merges_in_numbers x = record { refusal = option_map_or in_numbers x.3 no_refusal; count = x.0; next = x.1; len = x.2 }

@@ -3,7 +3,8 @@ ghost use Rattle.std.specs.Prelude.{◌≡◌};
 ghost use Rattle.fault.specs.Refusal.{refusal_of, told};
 ghost use Rattle.template.specs.Checking.{checked_of};
 ghost use Rattle.merge.specs.Answers.{merged_of};
-ghost use Rattle.gabirong_c.specs.Numbers.{no_refusal, in_numbers, checked_in_numbers, listed_in_numbers, merged_in_numbers};
+ghost use Rattle.merge.specs.Many.{many_told};
+ghost use Rattle.gabirong_c.specs.Numbers.{no_refusal, in_numbers, checked_in_numbers, listed_in_numbers, merged_in_numbers, merges_in_numbers};
 
 use fault::Fault;
 
@@ -43,6 +44,17 @@ pub struct Listed {
 pub struct Merged {
     pub refusal: Refusal,
     pub found: bool,
+    pub next: usize,
+    pub len: usize,
+}
+
+// What several merges came to: how many there were, the place after the last record, and the length of their texts. Beside a
+// refusal they tell what was merged before it.
+#[repr(C)]
+#[derive(Clone, Copy, PartialEq, Debug)]
+pub struct Merges {
+    pub refusal: Refusal,
+    pub count: usize,
     pub next: usize,
     pub len: usize,
 }
@@ -139,6 +151,23 @@ impl From<Result<Option<merge::merged::Merged>, Fault>> for Merged {
                 next: 0,
                 len: 0,
             },
+        }
+    }
+}
+
+impl From<merge::merged::Merges> for Merges {
+    ghost from_gives = { λ answer merges. merges ≡ merges_in_numbers (many_told answer) };
+
+    fn from(answer: merge::merged::Merges) -> Merges {
+        let refusal = match answer.refusal {
+            Some(fault) => fault.into(),
+            None => Refusal::none(),
+        };
+        Merges {
+            refusal,
+            count: answer.count,
+            next: answer.next,
+            len: answer.len,
         }
     }
 }
