@@ -74,7 +74,7 @@ impl Page {
     pub fn put_hole<H: Host>(
         &mut self,
         host: &H,
-        recipe: Recipe,
+        recipe: &Recipe,
         value: &[u8],
         hole: usize,
         out: &mut [u8],
@@ -82,7 +82,7 @@ impl Page {
         requires start { self.old.end < 2 ^ 30 }
         requires short { length value.now ≤ 160 }
         ensures bound { self.new.end ≤ self.old.end + 968 }
-        ensures text { after (λ done. (self.new.end, out.new)) (told result) ≡ onward self.old.end out.old (framed (brackets_of recipe) (spelt_out (H.meaning host.now) recipe.body hole 0 value.now)) }
+        ensures text { after (λ done. (self.new.end, out.new)) (told result) ≡ onward self.old.end out.old (framed (brackets_of recipe.now) (spelt_out (H.meaning host.now) recipe.now.body hole 0 value.now)) }
     {
         self.put(recipe.opener.as_slice(), out);
         self.put_value(host, recipe.body, value, hole, out)?;

@@ -48,7 +48,7 @@ fn walk_text<H: Host>(
             Item::Hole(Hole { place, .. }) => {
                 let recipe = host.recipe(context);
                 let (_, next) = cross(host, context).map_err(|_| Flaw::HoleRefused { place })?;
-                page.put_hole(host, recipe, values.value(holes), holes, out)?;
+                page.put_hole(host, &recipe, values.value(holes), holes, out)?;
                 holes += 1;
                 context = next;
             }

@@ -43,7 +43,7 @@ fn set_out_text<H: Host>(
                 if !recipe.takes {
                     return Err(Fault::Template(Flaw::HoleRefused { place }));
                 }
-                page.put_hole(host, recipe, values.value(holes), holes, out)?;
+                page.put_hole(host, &recipe, values.value(holes), holes, out)?;
                 holes += 1;
             }
         }
