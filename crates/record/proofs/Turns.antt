@@ -1,6 +1,6 @@
 -- One turn of reading a record. Assumes nothing.
-use Rattle.std.proofs.Common.{◌≡◌, ℕ, zero, suc, ◌+◌, ◌-◌, ◌<◌, ◌≤◌, true, false, List, [], ◌∷◌, ◌++◌, Ok, Err, length, take, drop, set, replicate, is_some, All, sym, refl, ap, ◌∙◌, subst, arith}
-use Rattle.std.proofs.lemmas.List.{drop-drop, drop-set-lt, drop-replicate, take_more_set, map_push, length-set}
+use Rattle.std.proofs.Common.{◌≡◌, ℕ, zero, suc, ◌+◌, ◌-◌, ◌<◌, ◌≤◌, true, false, List, [], ◌∷◌, ◌++◌, Ok, Err, length, take, drop, set, replicate, is_some, All, sym, refl, ap, ap₂, ◌∙◌, subst, arith}
+use Rattle.std.proofs.lemmas.List.{drop-drop, drop-set, drop-set-lt, drop-replicate, take_more_set, map_push, length-set}
 use Rattle.std.proofs.lemmas.List.Elements.{All-nil, All-push}
 use Rattle.record.specs.declared.shape.Entry.{Entry}
 use Rattle.fault.specs.declared.fault.Fault.{Fault}
@@ -117,3 +117,9 @@ pub at_start : (input : List ℕ) (start : ℕ) (es : List Entry) (count : ℕ) 
 at_start input start es count none rest sized inside =
     let left : reads 64 [] start (drop start input) ≡ read_at input start = grind arith in
     subst (λ n. Sofar input start (read_at input start) es n start) (sym none) (record { few = omega arith; sized = sized; inside = omega arith; lie = All-nil _; row = refl; rest = rest; left = left })
+
+-- an entry is taken back
+pub taken_back : (es : List Entry) (count : ℕ) (e : Entry) → length es ≡ 64 → count < 64 → BlankAfter (count + 1) es → e ≡ blank_entry → BlankAfter count (set es count e)
+taken_back es count e sized lt rest is =
+    let fewer : suc (64 - (count + 1)) ≡ 64 - count = omega arith in
+    drop-set es count e (omega arith) ∙ ap₂ (λ (x : Entry) (l : List Entry). x ∷ l) is rest ∙ ap (λ (k : ℕ). replicate k blank_entry) fewer
