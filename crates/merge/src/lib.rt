@@ -22,7 +22,7 @@ use printer::borrowed::BorrowedTable;
 use printer::filling::Filling;
 use printer::open::open_borrowed;
 use printer::sheet::Sheet;
-use record::record;
+use record::Reader;
 use record::shape::State;
 use source::Source;
 use template::check::check_and_survey;
@@ -90,12 +90,13 @@ fn fill_in<H: Host>(
     })
 }
 
-// Merges the record at a place of the input into a template that the host has accepted.
+// Merges the record that the reader reads at a place of the input, into a template that the host has accepted.
 #[tactic(auto, using(crate::proofs::Steps::comes_found, crate::proofs::Steps::comes_none, crate::proofs::Steps::comes_refused, crate::proofs::Steps::weighed_some, crate::proofs::Steps::written_some))]
 pub(crate) fn merge_checked<H: Host>(
     checked: &Checked<'_>,
     survey: &Survey,
     host: &H,
+    reader: &mut Reader,
     input: &[u8],
     place: usize,
     out: &mut [u8],
@@ -106,13 +107,11 @@ pub(crate) fn merge_checked<H: Host>(
     ensures answer { merged_of result ≡ weighed (merged (H.meaning host.now) checked.now.template.now input.now place (length out.old)) }
     ensures text { out.new ≡ written out.old (merged (H.meaning host.now) checked.now.template.now input.now place (length out.old)) }
 {
-    let found = record(input, place);
+    reader.read(input, place);
+    let found = reader.found();
     match found.state {
         State::Found => {
-            let source = Source {
-                input,
-                found: &found,
-            };
+            let source = Source { input, found };
             fill_in(checked, survey, host, &source, out).map(Some)
         }
         State::End => Ok(None),
@@ -134,7 +133,8 @@ pub fn merge_under<H: Host>(
     ensures law { WhereMerged result (λ x. ReadsAsRecord (H.meaning host.now) template.entry.template.now input.now place x.next (take x.len out.new)) }
 {
     let (checked, survey) = check_and_survey(template, host)?;
-    merge_checked(&checked, &survey, host, input, place, out)
+    let mut reader = Reader::new();
+    merge_checked(&checked, &survey, host, &mut reader, input, place, out)
 }
 
 // Merges likewise under the host of a sheet, and clears the sheet at the end in any case.

@@ -11,6 +11,7 @@ use crate::merge_checked;
 use crate::merged::{Merged, Merges};
 use fault::Fault;
 use host::Host;
+use record::Reader;
 use template::check::check_and_survey;
 use template::checked::Checked;
 use template::raw::Raw;
@@ -21,6 +22,7 @@ fn merge_behind<H: Host>(
     checked: &Checked<'_>,
     survey: &Survey,
     host: &H,
+    reader: &mut Reader,
     input: &[u8],
     place: usize,
     behind: usize,
@@ -33,7 +35,7 @@ fn merge_behind<H: Host>(
     ensures answer { merged_of result ≡ weighed (merged (H.meaning host.now) checked.now.template.now input.now place (length out.old - behind)) }
     ensures text { out.new ≡ take behind out.old ++ written (drop behind out.old) (merged (H.meaning host.now) checked.now.template.now input.now place (length out.old - behind)) }
 {
-    merge_checked(checked, survey, host, input, place, &mut out[behind..])
+    merge_checked(checked, survey, host, reader, input, place, &mut out[behind..])
 }
 
 // Merges at most `most` records from a place on, with a template that the host has accepted.
@@ -58,8 +60,18 @@ fn merge_on<H: Host>(
         len: 0,
         refusal: None,
     };
+    let mut reader = Reader::new();
     while done.count < most {
-        match merge_behind(checked, survey, host, input, done.next, done.len, out) {
+        match merge_behind(
+            checked,
+            survey,
+            host,
+            &mut reader,
+            input,
+            done.next,
+            done.len,
+            out,
+        ) {
             Ok(Some(Merged { next, len })) => {
                 done.count += 1;
                 done.next = next;
