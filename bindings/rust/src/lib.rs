@@ -215,7 +215,33 @@ impl Host {
     /// another from the start of the output: until `most` are merged, the input ends, or a record is refused.
     ///
     /// Each record is given what is left of the output. Where that is too short it is refused with 17, whose place is the length
-    /// of its own text: the caller empties the output and goes on at `next`.
+    /// of its own text: the caller empties the output and goes on at `next`. So a file of any length goes through one output:
+    ///
+    /// ```
+    /// use gabirong::{record, Host, MAX_TEXT};
+    /// use std::{error::Error, io::Write};
+    ///
+    /// fn merge_all(template: &[u8], file: &[u8], to: &mut impl Write) -> Result<(), Box<dyn Error>> {
+    ///     let (mut out, mut place) = (vec![0; MAX_TEXT], 0);
+    ///     loop {
+    ///         let merges = Host::Sql.merge_many(template, file, place, usize::MAX, &mut out);
+    ///         to.write_all(&out[..merges.len])?;
+    ///         place = merges.next;
+    ///         match merges.refusal {
+    ///             None => return Ok(()),
+    ///             // In an output of this length there is room for at least one record, so this comes to an end.
+    ///             Some(refusal) if refusal.number == 17 => {}
+    ///             Some(refusal) => return Err(refusal.into()),
+    ///         }
+    ///     }
+    /// }
+    ///
+    /// let file = record(&[(b"id", b"7")]).ok_or("too long")?.repeat(10_000);
+    /// let mut texts = Vec::new();
+    /// merge_all(b"id = @{id};@n", &file, &mut texts)?;
+    /// assert_eq!(texts, b"id = '7';\n".repeat(10_000));
+    /// # Ok::<(), Box<dyn Error>>(())
+    /// ```
     pub fn merge_many(
         self,
         template: &[u8],
