@@ -115,41 +115,49 @@ impl<'a> Values<'a> {
     }
 }
 
-/// Writes the text for one record. None where a value is missing.
+/// Adds the text for one record. None where a value is missing.
 pub type Fill = fn(&mut Vec<u8>, &Values) -> Option<()>;
 
-pub fn fill_sql(out: &mut Vec<u8>, values: &Values) -> Option<()> {
-    writeln!(
-        out,
-        "INSERT INTO runs (run, depth, site) VALUES ('{}', '{}', '{}');",
-        sql(values.run?),
-        sql(values.depth?),
-        sql(values.site?)
-    )
-    .ok()
+/// Two functions for one text: the first writes it to where it is to stand, the second makes a string of it, and copies that.
+macro_rules! fills {
+    ($write:ident, $format:ident, $text:literal, $($escape:ident($name:ident)),+) => {
+        pub fn $write(out: &mut Vec<u8>, values: &Values) -> Option<()> {
+            write!(out, $text, $($escape(values.$name?)),+).ok()
+        }
+
+        pub fn $format(out: &mut Vec<u8>, values: &Values) -> Option<()> {
+            out.extend(format!($text, $($escape(values.$name?)),+).as_bytes());
+            Some(())
+        }
+    };
 }
 
-pub fn fill_shell(out: &mut Vec<u8>, values: &Values) -> Option<()> {
-    writeln!(
-        out,
-        "groom --run '{}' --depth '{}' --note \"{}\"",
-        shell(values.run?),
-        shell(values.depth?),
-        shell_double(values.note?)
-    )
-    .ok()
-}
+fills!(
+    write_sql,
+    format_sql,
+    "INSERT INTO runs (run, depth, site) VALUES ('{}', '{}', '{}');\n",
+    sql(run),
+    sql(depth),
+    sql(site)
+);
 
-pub fn fill_csv(out: &mut Vec<u8>, values: &Values) -> Option<()> {
-    write!(
-        out,
-        "\"{}\",\"{}\",\"{}\"\r\n",
-        csv(values.run?),
-        csv(values.depth?),
-        csv(values.site?)
-    )
-    .ok()
-}
+fills!(
+    write_shell,
+    format_shell,
+    "groom --run '{}' --depth '{}' --note \"{}\"\n",
+    shell(run),
+    shell(depth),
+    shell_double(note)
+);
+
+fills!(
+    write_csv,
+    format_csv,
+    "\"{}\",\"{}\",\"{}\"\r\n",
+    csv(run),
+    csv(depth),
+    csv(site)
+);
 
 /// Goes through a file of records and writes the text for each.
 pub fn fill_all(out: &mut Vec<u8>, mut file: &[u8], fill: Fill) -> Option<()> {

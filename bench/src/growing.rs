@@ -133,7 +133,7 @@ impl Case {
 
     fn group(&self) -> Group<'_> {
         let mut ways = vec![
-            ours::merging(self.style.host, &self.template, &self.file),
+            ours::merging_many(self.style.host, &self.template, &self.file),
             self.by_hand(),
             Way::copying(&self.texts),
         ];
@@ -226,8 +226,8 @@ impl Growing {
 
     pub fn plot(&self, measured: &[Vec<Measured>]) -> String {
         let panels: Vec<Panel> = self.grown(measured).iter().map(Grown::panel).collect();
-        let title = "What a merge costs as it grows";
-        plot::svg(title, "nanoseconds a record", &panels, &KEYS)
+        let title = format!("What a merge costs as it grows, {RECORDS} records at once");
+        plot::svg(&title, "nanoseconds a record", &panels, &KEYS)
     }
 }
 
@@ -261,7 +261,10 @@ impl Grown<'_> {
             .map(|(host, points)| {
                 of_series(
                     &format!("Merging, by {}, {host}", self.growth.heading),
-                    &format!("{} Nanoseconds a record.", self.growth.words),
+                    &format!(
+                        "{} Nanoseconds a record, in files of {RECORDS}.",
+                        self.growth.words
+                    ),
                     &[self.growth.number],
                     points,
                 )

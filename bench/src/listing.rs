@@ -178,6 +178,7 @@ impl Case {
                 thousands(tokens_of(&self.fields).len())
             ),
             "ns a byte",
+            &["ours ÷ this"],
             measured,
             &remarks,
         )

@@ -32,8 +32,8 @@ fn preface() -> String {
         "# What the calls cost\n\n\
         Written by `bench/run`, anew at each run. What is measured, and how, is told in [docs/BENCH.md](../docs/BENCH.md).\n\n\
         {}\n\
-        A time is the median of {} batches, and \"middle half\" has the quartiles. \"Ours ÷ this\" says how many times as long \
-        the library takes: the median of the rounds, in each of which every way has a batch.\n\n\
+        A time is the median of {} batches, and \"middle half\" has the quartiles. A ratio, such as \"many at once ÷ this\", says \
+        how many times as long the library takes: the median of the rounds, in each of which every way has a batch.\n\n\
         ![Three panels: the cost of a merge by template length, by number of holes and by value length](cost.svg)\n\n",
         machine::table(),
         measure::BATCHES

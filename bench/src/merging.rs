@@ -18,7 +18,9 @@ struct Everyday {
     host: Host,
     name: &'static str,
     template: &'static str,
-    by_hand: Fill,
+    /// The text by hand, by `write!` and by `format!`.
+    write: Fill,
+    format: Fill,
     tera: &'static str,
     escape: fn(&str) -> String,
 }
@@ -28,7 +30,8 @@ static EVERYDAY: [Everyday; 3] = [
         host: Host::Sql,
         name: "SQL",
         template: "INSERT INTO runs (run, depth, site) VALUES (@{run}, @{depth}, '@{site}');@n",
-        by_hand: by_hand::fill_sql,
+        write: by_hand::write_sql,
+        format: by_hand::format_sql,
         tera: "INSERT INTO runs (run, depth, site) VALUES ('{{ run }}', '{{ depth }}', '{{ site }}');\n",
         escape: |value| by_hand::sql(value).into(),
     },
@@ -36,7 +39,8 @@ static EVERYDAY: [Everyday; 3] = [
         host: Host::Shell,
         name: "shell",
         template: "groom --run @{run} --depth @{depth} --note \"@{note}\"@n",
-        by_hand: by_hand::fill_shell,
+        write: by_hand::write_shell,
+        format: by_hand::format_shell,
         tera: "groom --run '{{ run }}' --depth '{{ depth }}' --note \"{{ note | double_quoted }}\"\n",
         escape: |value| by_hand::shell(value).into(),
     },
@@ -44,21 +48,22 @@ static EVERYDAY: [Everyday; 3] = [
         host: Host::Csv,
         name: "CSV",
         template: "@{run},@{depth},@{site}@r@n",
-        by_hand: by_hand::fill_csv,
+        write: by_hand::write_csv,
+        format: by_hand::format_csv,
         tera: "\"{{ run }}\",\"{{ depth }}\",\"{{ site }}\"\r\n",
         escape: |value| by_hand::csv(value).into(),
     },
 ];
 
-fn reading_by_hand(fill: Fill, file: &[u8]) -> Way<'_> {
-    Way::adding("by hand, from records", move |out| {
+fn reading_by_hand<'a>(name: &'static str, fill: Fill, file: &'a [u8]) -> Way<'a> {
+    Way::adding(name, move |out| {
         by_hand::fill_all(out, black_box(file), fill).expect("the file is whole");
     })
 }
 
 fn by_hand(fill: Fill, runs: &[Run]) -> Way<'_> {
     let values: Vec<Values> = runs.iter().map(Values::of).collect();
-    Way::adding("by hand, from values", move |out| {
+    Way::adding("by hand with write!, from values", move |out| {
         for values in black_box(&values) {
             fill(out, values).expect("all values are there");
         }
@@ -114,28 +119,32 @@ impl Case {
         }
     }
 
-    /// The ways, the first of them ours, each with a remark on its output, which is right.
+    /// The ways, the first two of them ours, each with a remark on its output, which is right.
     fn ways(&self) -> Vec<(Way<'_>, &'static str)> {
-        let everyday = self.everyday;
+        let (everyday, file) = (self.everyday, &self.file);
+        let (host, template) = (everyday.host, everyday.template);
         let mut ways = vec![
-            ours::merging(everyday.host, everyday.template, &self.file),
-            reading_by_hand(everyday.by_hand, &self.file),
-            by_hand(everyday.by_hand, &self.runs),
+            ours::merging(host, template, file),
+            ours::merging_many(host, template, file),
+            reading_by_hand("by hand with write!, from records", everyday.write, file),
+            reading_by_hand("by hand with format!, from records", everyday.format, file),
+            by_hand(everyday.write, &self.runs),
             by_tera(everyday, &self.runs),
             Way::copying(&self.texts),
         ];
-        if everyday.host == Host::Csv {
-            ways.insert(4, by_csv(&self.runs));
+        if host == Host::Csv {
+            ways.insert(ways.len() - 1, by_csv(&self.runs));
         }
         let text = self.texts.concat();
         for way in &mut ways {
             way.assert_writes(&text);
         }
         let mut ways: Vec<_> = ways.into_iter().map(|way| (way, SAME)).collect();
-        if everyday.host == Host::Shell {
+        if host == Host::Shell {
             let mut way = by_shell_words(&self.runs);
             assert!(words(&way.text()) == words(&text), "other words");
-            ways.insert(4, (way, "same words, quotes only where needed"));
+            let remark = "same words, quotes only where needed";
+            ways.insert(ways.len() - 1, (way, remark));
         }
         ways
     }
@@ -159,6 +168,7 @@ impl Case {
                 self.everyday.template
             ),
             "ns a record",
+            &["record by record ÷ this", "many at once ÷ this"],
             measured,
             &remarks,
         )

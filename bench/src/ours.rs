@@ -12,9 +12,9 @@ fn merge(host: Host, template: &[u8], file: &[u8], place: usize, out: &mut [u8])
         .expect("the host takes the template and the values, and there is room")
 }
 
-/// Merges the records of a file into a template, and writes their texts one after another.
+/// Merges the records of a file into a template by a call for each, and writes their texts one after another.
 pub fn merging<'a>(host: Host, template: &'a str, file: &'a [u8]) -> Way<'a> {
-    Way::new("gabirong", move |out| {
+    Way::new("gabirong, record by record", move |out| {
         out.resize(ROOM, 0);
         let (template, file) = (black_box(template.as_bytes()), black_box(file));
         let (mut place, mut len) = (0, 0);
@@ -23,6 +23,17 @@ pub fn merging<'a>(host: Host, template: &'a str, file: &'a [u8]) -> Way<'a> {
             len += merged.len;
         }
         len
+    })
+}
+
+/// Does the same by one call for all records.
+pub fn merging_many<'a>(host: Host, template: &'a str, file: &'a [u8]) -> Way<'a> {
+    Way::new("gabirong, many at once", move |out| {
+        out.resize(ROOM, 0);
+        let (template, file) = (black_box(template.as_bytes()), black_box(file));
+        let merges = host.merge_many(template, file, 0, usize::MAX, out);
+        assert_eq!(merges.refusal, None, "there is room for all texts");
+        merges.len
     })
 }
 

@@ -10,7 +10,7 @@ pub struct Table {
     head: Vec<String>,
     rows: Vec<Vec<String>>,
     /// The columns that have words, and are set to the left.
-    of_words: &'static [usize],
+    of_words: Vec<usize>,
 }
 
 impl fmt::Display for Table {
@@ -59,32 +59,33 @@ impl Table {
     }
 }
 
-/// A table of ways to do one thing, the first of them ours, each with a remark on its output.
+/// A table of ways to do one thing, each with a remark on its output. The first of them are ours, and each of these has a column
+/// of ratios, by the headings that are given.
 pub fn of_ways(
     heading: &str,
     words: &str,
     unit: &str,
+    ratios: &[&str],
     ways: &[Measured],
     remarks: &[&str],
 ) -> Table {
     let rows = ways.iter().zip(remarks).map(|(way, remark)| {
         let (lower, upper) = way.quartiles();
-        vec![
-            way.name.into(),
-            number(way.median()),
-            format!("{} to {}", number(lower), number(upper)),
-            number(ways[0].times(way)),
-            remark.to_string(),
-        ]
+        let middle_half = format!("{} to {}", number(lower), number(upper));
+        let ours = ways[..ratios.len()].iter();
+        [way.name.into(), number(way.median()), middle_half]
+            .into_iter()
+            .chain(ours.map(|ours| number(ours.times(way))))
+            .chain([remark.to_string()])
+            .collect()
     });
+    let head = [&["way", unit, "middle half"], ratios, &["output"]].concat();
     Table {
         heading: heading.into(),
         words: words.into(),
-        head: ["way", unit, "middle half", "ours ÷ this", "output"]
-            .map(String::from)
-            .into(),
+        of_words: vec![0, head.len() - 1],
+        head: head.into_iter().map(String::from).collect(),
         rows: rows.collect(),
-        of_words: &[0, 4],
     }
 }
 
@@ -110,7 +111,7 @@ pub fn of_series(heading: &str, words: &str, numbers: &[&str], points: &[Point])
             .chain(ratios)
             .collect(),
         rows: points.iter().map(row_of).collect(),
-        of_words: &[],
+        of_words: Vec::new(),
     }
 }
 

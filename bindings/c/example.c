@@ -1,4 +1,5 @@
-/* Checks a template, fills it with each record of a file in memory, and lists the last text. */
+/* Checks a template, fills it with each record of a file in memory, first with one after another and then with all at once,
+ * and lists the last text. */
 #include "gabirong.h"
 
 #include <stdio.h>
@@ -33,7 +34,7 @@ static int told(struct gabirong_refusal refusal)
 
 int main(void)
 {
-    static uint8_t text[GABIRONG_MAX_TEXT], fields[GABIRONG_MAX_TEXT];
+    static uint8_t text[GABIRONG_MAX_TEXT], texts[GABIRONG_MAX_TEXT], fields[GABIRONG_MAX_TEXT];
     const uint8_t *template_bytes = (const uint8_t *)"INSERT INTO runs VALUES (@{site}, @{cm});@n";
     size_t template_len = strlen((const char *)template_bytes);
     uint8_t file[256];
@@ -62,6 +63,12 @@ int main(void)
         fwrite(text, 1, len, stdout);
         place = merged.next;
     }
+
+    struct gabirong_merges merges =
+        gabirong_sql_merge_many(template_bytes, template_len, file, file_len, 0, SIZE_MAX, texts, sizeof texts);
+    printf("at once: %zu records, %zu bytes, next place %zu\n", merges.count, merges.len, merges.next);
+    fwrite(texts, 1, merges.len, stdout);
+    told(merges.refusal);
 
     struct gabirong_listed listed = gabirong_sql_list(text, len, fields, sizeof fields);
     if (told(listed.refusal))

@@ -1,4 +1,5 @@
-//! Checks a template, fills it with two records and with one that lacks a name, and lists the last text.
+//! Checks a template, fills it with two records and with one that lacks a name, first with one after another and then with all
+//! at once, and lists the last text.
 
 use gabirong::{record, Host, MAX_TEXT};
 use std::io::Write;
@@ -32,6 +33,17 @@ fn main() -> Result<(), Box<dyn std::error::Error>> {
                 break;
             }
         }
+    }
+
+    let mut texts = vec![0; MAX_TEXT];
+    let merges = Host::Sql.merge_many(template, &file, 0, usize::MAX, &mut texts);
+    println!(
+        "at once: {} records, {} bytes, next place {}",
+        merges.count, merges.len, merges.next
+    );
+    std::io::stdout().write_all(&texts[..merges.len])?;
+    if let Some(refusal) = merges.refusal {
+        println!("{refusal}");
     }
 
     let mut fields = vec![0; MAX_TEXT];

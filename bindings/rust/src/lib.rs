@@ -37,8 +37,16 @@ mod ffi {
         pub len: usize,
     }
 
+    #[repr(C)]
+    pub struct Merges {
+        pub refusal: Refusal,
+        pub count: usize,
+        pub next: usize,
+        pub len: usize,
+    }
+
     macro_rules! declared {
-        ($check:ident, $list:ident, $merge:ident) => {
+        ($check:ident, $list:ident, $merge:ident, $merge_many:ident) => {
             extern "C" {
                 pub fn $check(template: *const u8, template_len: usize) -> Checked;
                 pub fn $list(
@@ -56,6 +64,16 @@ mod ffi {
                     out: *mut u8,
                     out_len: usize,
                 ) -> Merged;
+                pub fn $merge_many(
+                    template: *const u8,
+                    template_len: usize,
+                    input: *const u8,
+                    input_len: usize,
+                    place: usize,
+                    most: usize,
+                    out: *mut u8,
+                    out_len: usize,
+                ) -> Merges;
             }
         };
     }
@@ -63,10 +81,21 @@ mod ffi {
     declared!(
         gabirong_shell_check,
         gabirong_shell_list,
-        gabirong_shell_merge
+        gabirong_shell_merge,
+        gabirong_shell_merge_many
     );
-    declared!(gabirong_sql_check, gabirong_sql_list, gabirong_sql_merge);
-    declared!(gabirong_csv_check, gabirong_csv_list, gabirong_csv_merge);
+    declared!(
+        gabirong_sql_check,
+        gabirong_sql_list,
+        gabirong_sql_merge,
+        gabirong_sql_merge_many
+    );
+    declared!(
+        gabirong_csv_check,
+        gabirong_csv_list,
+        gabirong_csv_merge,
+        gabirong_csv_merge_many
+    );
 }
 
 /// The most bytes of a text that is merged.
@@ -108,6 +137,20 @@ impl std::error::Error for Refusal {}
 pub struct Merged {
     pub next: usize,
     pub len: usize,
+}
+
+/// What merging many records came to. The numbers beside a refusal tell what was merged before it.
+#[derive(Clone, Copy, PartialEq, Eq, Debug)]
+pub struct Merges {
+    /// How many records were merged.
+    pub count: usize,
+    /// The place after the last of them; the place that was given where there is none.
+    pub next: usize,
+    /// The length of their texts together.
+    pub len: usize,
+    /// That of the template, or that of the record at `next`; none where as many were merged as were asked for, or where the
+    /// input ends.
+    pub refusal: Option<Refusal>,
 }
 
 fn judged(refusal: ffi::Refusal) -> Result<(), Refusal> {
@@ -166,6 +209,71 @@ impl Host {
             next: merged.next,
             len: merged.len,
         }))
+    }
+
+    /// Checks the template, fills it with one record after another, from a place of the input on, and writes the texts one after
+    /// another from the start of the output: until `most` are merged, the input ends, or a record is refused.
+    ///
+    /// Each record is given what is left of the output. Where that is too short it is refused with 17, whose place is the length
+    /// of its own text: the caller empties the output and goes on at `next`. So a file of any length goes through one output:
+    ///
+    /// ```
+    /// use gabirong::{record, Host, MAX_TEXT};
+    /// use std::{error::Error, io::Write};
+    ///
+    /// fn merge_all(template: &[u8], file: &[u8], to: &mut impl Write) -> Result<(), Box<dyn Error>> {
+    ///     let (mut out, mut place) = (vec![0; MAX_TEXT], 0);
+    ///     loop {
+    ///         let merges = Host::Sql.merge_many(template, file, place, usize::MAX, &mut out);
+    ///         to.write_all(&out[..merges.len])?;
+    ///         place = merges.next;
+    ///         match merges.refusal {
+    ///             None => return Ok(()),
+    ///             // In an output of this length there is room for at least one record, so this comes to an end.
+    ///             Some(refusal) if refusal.number == 17 => {}
+    ///             Some(refusal) => return Err(refusal.into()),
+    ///         }
+    ///     }
+    /// }
+    ///
+    /// let file = record(&[(b"id", b"7")]).ok_or("too long")?.repeat(10_000);
+    /// let mut texts = Vec::new();
+    /// merge_all(b"id = @{id};@n", &file, &mut texts)?;
+    /// assert_eq!(texts, b"id = '7';\n".repeat(10_000));
+    /// # Ok::<(), Box<dyn Error>>(())
+    /// ```
+    pub fn merge_many(
+        self,
+        template: &[u8],
+        input: &[u8],
+        place: usize,
+        most: usize,
+        out: &mut [u8],
+    ) -> Merges {
+        let merge_many = match self {
+            Host::Shell => ffi::gabirong_shell_merge_many,
+            Host::Sql => ffi::gabirong_sql_merge_many,
+            Host::Csv => ffi::gabirong_csv_merge_many,
+        };
+        // As above.
+        let merges = unsafe {
+            merge_many(
+                template.as_ptr(),
+                template.len(),
+                input.as_ptr(),
+                input.len(),
+                place,
+                most,
+                out.as_mut_ptr(),
+                out.len(),
+            )
+        };
+        Merges {
+            count: merges.count,
+            next: merges.next,
+            len: merges.len,
+            refusal: judged(merges.refusal).err(),
+        }
     }
 
     /// Writes the tokens that a text reads as into the output, as fields, and answers their length.

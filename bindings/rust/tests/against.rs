@@ -2,7 +2,7 @@
 
 mod rules;
 
-use gabirong::{record, Host, Merged, Refusal};
+use gabirong::{record, Host, Merged, Merges, Refusal};
 use std::collections::BTreeMap;
 use std::fmt::Debug;
 
@@ -30,6 +30,21 @@ fn wrapped(refusal: rules::Refusal) -> Refusal {
     }
 }
 
+fn wrapped_merges(merges: rules::Merges) -> Merges {
+    let rules::Merges {
+        count,
+        next,
+        len,
+        refusal,
+    } = merges;
+    Merges {
+        count,
+        next,
+        len,
+        refusal: refusal.map(wrapped),
+    }
+}
+
 // Comparing
 
 #[derive(Clone, Copy, PartialEq, Eq, PartialOrd, Ord, Debug)]
@@ -37,6 +52,7 @@ enum Call {
     Check,
     List,
     Merge,
+    MergeMany,
 }
 
 /// What a call came to, for counting.
@@ -45,6 +61,8 @@ enum Outcome {
     Taken,
     Ended,
     Refused(u32),
+    /// Refused after at least one record was merged.
+    RefusedLater(u32),
 }
 
 fn outcome<T>(answer: &Result<T, Refusal>) -> Outcome {
@@ -54,8 +72,17 @@ fn outcome<T>(answer: &Result<T, Refusal>) -> Outcome {
     }
 }
 
+fn outcome_of_many(merges: &Merges, most: usize) -> Outcome {
+    match merges.refusal {
+        None if merges.count == most => Outcome::Taken,
+        None => Outcome::Ended,
+        Some(refusal) if merges.count == 0 => Outcome::Refused(refusal.number),
+        Some(refusal) => Outcome::RefusedLater(refusal.number),
+    }
+}
+
 /// What a call answers, and its output afterwards.
-type Answer<T> = (Result<T, Refusal>, Vec<u8>);
+type Answer<T> = (T, Vec<u8>);
 
 /// Counts what was reached, and keeps the cases that differ.
 #[derive(Default)]
@@ -123,18 +150,13 @@ impl Tally {
 
     /// Merges a record into outputs of several lengths, and answers the place after it.
     fn merge(&mut self, host: Host, template: &[u8], input: &[u8], place: usize) -> Option<usize> {
-        let merging = rules::merging(table(host), template, input, place).map_err(wrapped);
+        let merging = rules::merging(table(host), template, input, place);
         let text = merging.as_ref().ok().and_then(Option::as_ref);
         for len in lengths(text.map_or(50, |(text, _)| text.len())) {
             let (mut got_out, mut wanted_out) = (vec![FILLED; len], vec![FILLED; len]);
-            let wanted = match &merging {
-                Ok(Some((text, next))) => match rules::put(text, &mut wanted_out) {
-                    Ok(len) => Ok(Some(Merged { next: *next, len })),
-                    Err(refusal) => Err(wrapped(refusal)),
-                },
-                Ok(None) => Ok(None),
-                Err(refusal) => Err(*refusal),
-            };
+            let wanted = rules::put_merging(&merging, &mut wanted_out)
+                .map(|found| found.map(|(next, len)| Merged { next, len }))
+                .map_err(wrapped);
             let got = host.merge(template, input, place, &mut got_out);
             let came_to = match wanted {
                 Ok(None) => Outcome::Ended,
@@ -150,6 +172,49 @@ impl Tally {
         merging.ok().flatten().map(|(_, next)| next)
     }
 
+    /// Merges many records into outputs that end about where the texts do, each time twice: at most a few, and at most
+    /// about as many as there are.
+    fn merge_many(
+        &mut self,
+        numbers: &mut Numbers,
+        host: Host,
+        template: &[u8],
+        input: &[u8],
+        place: usize,
+    ) {
+        let ends = ends(host, template, input, place);
+        let mut lens: Vec<usize> = ends.iter().flat_map(|&end| lengths(end)).collect();
+        lens.sort();
+        lens.dedup();
+        for len in lens {
+            let few = numbers.pick(&[0, 1, 2]);
+            let all = numbers.pick(&[ends.len() - 1, ends.len(), usize::MAX]);
+            self.merge_at_most(host, template, input, place, few, len);
+            self.merge_at_most(host, template, input, place, all, len);
+        }
+    }
+
+    fn merge_at_most(
+        &mut self,
+        host: Host,
+        template: &[u8],
+        input: &[u8],
+        place: usize,
+        most: usize,
+        len: usize,
+    ) {
+        let (mut got_out, mut wanted_out) = (vec![FILLED; len], vec![FILLED; len]);
+        let wanted = rules::merge_many(table(host), template, input, place, most, &mut wanted_out);
+        let wanted = wrapped_merges(wanted);
+        let got = host.merge_many(template, input, place, most, &mut got_out);
+        self.count(Call::MergeMany, host, outcome_of_many(&wanted, most));
+        let case = || {
+            let (template, input) = (shown(template), shown(input));
+            format!("{host:?} merge {most} of {template} with {input} at {place} into {len}")
+        };
+        self.compare((got, got_out), (wanted, wanted_out), case);
+    }
+
     fn none_differs(&self) {
         let cases = self.shown.join("\n");
         assert!(
@@ -161,24 +226,24 @@ impl Tally {
         println!("{} cases, none differs", self.cases);
     }
 
-    /// Every call came to each of its outcomes under each host.
-    fn all_reached(&self, least: usize) {
-        let check = [1, 2, 3, 5, 6, 7, 8];
-        let list = [17, 18, 19];
-        let merge = [13, 17, 20, 21, 22, 23, 24, 25, 26, 27, 30];
-        for host in HOSTS {
-            self.least(least, Call::Check, host, Outcome::Taken);
-            self.least(least, Call::List, host, Outcome::Taken);
-            self.least(least, Call::Merge, host, Outcome::Taken);
-            self.least(least, Call::Merge, host, Outcome::Ended);
-            check
-                .iter()
-                .for_each(|&number| self.least(least, Call::Check, host, Outcome::Refused(number)));
-            list.iter()
-                .for_each(|&number| self.least(least, Call::List, host, Outcome::Refused(number)));
-            let of_merge = check.iter().chain(&merge);
-            of_merge
-                .for_each(|&number| self.least(least, Call::Merge, host, Outcome::Refused(number)));
+    /// Every call came to each of its outcomes under the host.
+    fn all_reached(&self, least: usize, host: Host) {
+        use Outcome::{Ended, Refused, RefusedLater, Taken};
+        let of_records = [13, 17, 20, 21, 22, 23, 24, 25, 26, 27, 30];
+        let check = [1, 2, 3, 5, 6, 7, 8].map(Refused);
+        let list = [17, 18, 19].map(Refused);
+        let merge = [&[Ended], &check[..], &of_records.map(Refused)].concat();
+        let merge_many = [&merge[..], &of_records.map(RefusedLater)].concat();
+        let outcomes = [
+            (Call::Check, &check[..]),
+            (Call::List, &list),
+            (Call::Merge, &merge),
+            (Call::MergeMany, &merge_many),
+        ];
+        for (call, others) in outcomes {
+            for &outcome in [Taken].iter().chain(others) {
+                self.least(least, call, host, outcome);
+            }
         }
     }
 
@@ -206,6 +271,17 @@ fn lengths(room: usize) -> Vec<usize> {
     let mut lengths = vec![0, room.saturating_sub(1), room, room + 9];
     lengths.dedup();
     lengths
+}
+
+/// The lengths of the texts together of no record, of one, and so on, until the file ends or a record is refused.
+fn ends(host: Host, template: &[u8], input: &[u8], mut place: usize) -> Vec<usize> {
+    let (mut ends, mut end) = (vec![0], 0);
+    while let Ok(Some((text, next))) = rules::merging(table(host), template, input, place) {
+        place = next;
+        end += text.len();
+        ends.push(end);
+    }
+    ends
 }
 
 // Making inputs
@@ -321,12 +397,11 @@ fn value(numbers: &mut Numbers) -> Vec<u8> {
         _ => numbers.below(9),
     };
     let any = numbers.one_in(6);
-    let mut byte = || {
-        if any {
-            numbers.byte()
-        } else {
-            numbers.pick(b"ab c'\"\\$`,;\r\n~@{")
-        }
+    let mut byte = || match any {
+        // No host takes a byte 00 in a value.
+        true if numbers.one_in(8) => 0,
+        true => numbers.byte(),
+        false => numbers.pick(b"ab c'\"\\$`,;\r\n~@{"),
     };
     (0..len).map(|_| byte()).collect()
 }
@@ -351,6 +426,12 @@ fn written(numbers: &mut Numbers) -> Vec<u8> {
     bytes
 }
 
+/// The written form of a record that has all names which templates mostly use.
+fn everyday(numbers: &mut Numbers) -> Vec<u8> {
+    let [a, b, c] = [(); 3].map(|()| numbers.joined(&[b"x", b"'", b"\"", b"\\", b"$", b" "], 6));
+    record(&[(b"a", &a), (b"b", &b), (b"c", &c)]).expect("a short record")
+}
+
 /// A record of so many pairs, with names all different.
 fn many(count: usize) -> Vec<u8> {
     let names: Vec<Vec<u8>> = (0..count)
@@ -366,33 +447,44 @@ fn many(count: usize) -> Vec<u8> {
 // The tests
 
 #[test]
-fn random_inputs() {
+fn random_inputs_of_the_shell() {
+    random_inputs(Host::Shell);
+}
+
+#[test]
+fn random_inputs_of_sql() {
+    random_inputs(Host::Sql);
+}
+
+#[test]
+fn random_inputs_of_csv() {
+    random_inputs(Host::Csv);
+}
+
+fn random_inputs(host: Host) {
     let mut tally = Tally::default();
-    for host in HOSTS {
-        let mut numbers = Numbers(1 + host as u64);
-        for _ in 0..12_000 {
-            let template = template(&mut numbers, host);
-            tally.check(host, &template);
-            tally.list(host, &template);
-            let input: Vec<u8> = (0..numbers.below(4))
-                .flat_map(|_| written(&mut numbers))
-                .collect();
-            let mut place = Some(0);
-            while let Some(at) = place {
-                place = tally.merge(host, &template, &input, at);
-            }
-            let anywhere = numbers.below(input.len() + 3);
-            tally.merge(
-                host,
-                &template,
-                &input,
-                numbers.pick(&[anywhere, input.len(), usize::MAX]),
-            );
+    let mut numbers = Numbers(1 + host as u64);
+    for _ in 0..12_000 {
+        let template = template(&mut numbers, host);
+        tally.check(host, &template);
+        tally.list(host, &template);
+        let input: Vec<u8> = (0..numbers.below(4))
+            .flat_map(|_| written(&mut numbers))
+            .collect();
+        let mut place = Some(0);
+        while let Some(at) = place {
+            tally.merge_many(&mut numbers, host, &template, &input, at);
+            place = tally.merge(host, &template, &input, at);
         }
-        limits(&mut tally, &mut numbers, host);
+        let anywhere = numbers.below(input.len() + 3);
+        let place = numbers.pick(&[anywhere, input.len(), usize::MAX]);
+        tally.merge(host, &template, &input, place);
+        tally.merge_many(&mut numbers, host, &template, &input, place);
     }
+    limits(&mut tally, &mut numbers, host);
+    files(&mut tally, &mut numbers, host);
     tally.none_differs();
-    tally.all_reached(20);
+    tally.all_reached(20, host);
 }
 
 /// Inputs at the limits: long templates and texts, many holes, many pairs, and damaged ones of these.
@@ -406,6 +498,8 @@ fn limits(tally: &mut Tally, numbers: &mut Numbers, host: Host) {
             .collect();
         let input = [many(61 + round % 6), written(numbers)].concat();
         let damaged = numbers.damaged(input.clone());
+        let files = [[&many(64), &input], [&input, &damaged]]
+            .map(|records| records.map(Vec::as_slice).concat());
         for template in [long, holes, named] {
             let other = numbers.damaged(template.clone());
             for template in [template, other] {
@@ -413,6 +507,9 @@ fn limits(tally: &mut Tally, numbers: &mut Numbers, host: Host) {
                 tally.merge(host, &template, &input, 0);
                 tally.merge(host, &template, &damaged, 0);
                 tally.merge(host, &template, &written(numbers), 0);
+                for file in &files {
+                    tally.merge_many(numbers, host, &template, file, 0);
+                }
             }
         }
         let len = 65_530 + round % 10;
@@ -427,27 +524,43 @@ fn limits(tally: &mut Tally, numbers: &mut Numbers, host: Host) {
     }
 }
 
+/// Files of many records, whole ones and such with a damaged record.
+fn files(tally: &mut Tally, numbers: &mut Numbers, host: Host) {
+    for _ in 0..3_000 {
+        let template = template(numbers, host);
+        let mut records: Vec<Vec<u8>> = (0..numbers.below(20)).map(|_| everyday(numbers)).collect();
+        if numbers.one_in(2) {
+            let record = written(numbers);
+            let at = numbers.below(records.len() + 1);
+            records.insert(at, numbers.damaged(record));
+        }
+        tally.merge_many(numbers, host, &template, &records.concat(), 0);
+    }
+}
+
 #[test]
 fn largest_texts() {
     let mut tally = Tally::default();
+    let mut numbers = Numbers(21);
     for host in HOSTS {
         for byte in [b'\'', b'"', b'a', b'\\', b'$', 0xFF, 0] {
             let input = record(&[(b"a", &[byte; 160])]).expect("a short record");
             let inside: &[u8] = if host == Host::Csv { b"\"" } else { b"'" };
-            let within = [inside, &b"@{a}".repeat(64), &b"x".repeat(3326), inside].concat();
-            tally.merge(host, &b"@{a},".repeat(64), &input, 0);
-            tally.merge(host, &within, &input, 0);
-            tally.merge(
-                host,
-                &[b"\"", b"@{a}".repeat(64).as_slice(), b"\""].concat(),
-                &input,
-                0,
-            );
+            let templates = [
+                b"@{a},".repeat(64),
+                [inside, &b"@{a}".repeat(64), &b"x".repeat(3326), inside].concat(),
+                [b"\"", b"@{a}".repeat(64).as_slice(), b"\""].concat(),
+            ];
+            for template in templates {
+                tally.merge(host, &template, &input, 0);
+                tally.merge_many(&mut numbers, host, &template, &input.repeat(2), 0);
+            }
         }
     }
     tally.none_differs();
     for host in HOSTS {
         tally.least(20, Call::Merge, host, Outcome::Taken);
+        tally.least(20, Call::MergeMany, host, Outcome::Taken);
     }
 }
 

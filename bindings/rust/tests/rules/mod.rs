@@ -675,13 +675,11 @@ fn record_at(input: &[u8], place: usize) -> Result<Option<Record<'_>>, Refusal> 
 
 // Merging
 
+/// A text and the place after its record, none where there is no record, or why it is refused.
+pub type Merging = Result<Option<(Vec<u8>, usize)>, Refusal>;
+
 /// The text of a record in a template and the place after the record, whatever room there is.
-pub fn merging(
-    host: &'static Host,
-    template: &[u8],
-    input: &[u8],
-    place: usize,
-) -> Result<Option<(Vec<u8>, usize)>, Refusal> {
+pub fn merging(host: &'static Host, template: &[u8], input: &[u8], place: usize) -> Merging {
     let pieces = pieces(host, template)?;
     let Some(record) = record_at(input, place)? else {
         return Ok(None);
@@ -707,4 +705,51 @@ pub fn merging(
         }
     }
     Ok(Some((text, record.next)))
+}
+
+/// What is merged, written at the start of the output: the place after the record, and the length of the text.
+pub fn put_merging(merging: &Merging, out: &mut [u8]) -> Result<Option<(usize, usize)>, Refusal> {
+    match merging {
+        Ok(Some((text, next))) => Ok(Some((*next, put(text, out)?))),
+        Ok(None) => Ok(None),
+        Err(refusal) => Err(*refusal),
+    }
+}
+
+/// What merging many records came to.
+pub struct Merges {
+    pub count: usize,
+    pub next: usize,
+    pub len: usize,
+    pub refusal: Option<Refusal>,
+}
+
+/// Merges one record after another, each into what is left of the output.
+pub fn merge_many(
+    host: &'static Host,
+    template: &[u8],
+    input: &[u8],
+    place: usize,
+    most: usize,
+    out: &mut [u8],
+) -> Merges {
+    let mut merges = Merges {
+        count: 0,
+        next: place,
+        len: 0,
+        refusal: check(host, template).err(),
+    };
+    while merges.refusal.is_none() && merges.count < most {
+        let merging = merging(host, template, input, merges.next);
+        match put_merging(&merging, &mut out[merges.len..]) {
+            Ok(Some((next, len))) => {
+                merges.count += 1;
+                merges.next = next;
+                merges.len += len;
+            }
+            Ok(None) => break,
+            Err(refusal) => merges.refusal = Some(refusal),
+        }
+    }
+    merges
 }
