@@ -32,7 +32,21 @@ impl Page {
         self.end += 1;
     }
 
-    // Adds bytes, and writes as many of them as the output has places for. They are few, so each is written by itself.
+    // Adds bytes, and writes as many of them as the output has places for.
+    #[tactic(auto, using(crate::proofs::Writing::overlaid_copy, crate::proofs::Writing::overlaid_past))]
+    pub fn put_run(&mut self, bytes: &[u8], out: &mut [u8])
+        requires { self.old.end < 2 ^ 32 }
+        ensures end { self.new.end ≡ self.old.end + length bytes.now }
+        ensures output { out.new ≡ overlaid out.old self.old.end bytes.now }
+    {
+        if self.end < out.len() {
+            let room = bytes.len().min(out.len() - self.end);
+            out[self.end..self.end + room].copy_from_slice(&bytes[..room]);
+        }
+        self.end += bytes.len();
+    }
+
+    // The same for a row that is short: each byte is written by itself.
     #[inline(always)]
     #[tactic(auto, using(crate::proofs::Writing::overlaid_step, crate::proofs::Writing::overlaid_done))]
     pub fn put(&mut self, bytes: &[u8], out: &mut [u8])

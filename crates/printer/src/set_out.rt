@@ -34,7 +34,13 @@ fn set_out_text<H: Host>(
     // Only holes are counted, so `enumerate` does not serve.
     let mut holes = 0;
     let mut page = Page::default();
-    for read in Items::of(template) {
+    let mut items = Items::of(template);
+    // Before each item that is read by itself stands a run of literals, so no `for` serves.
+    loop {
+        page.put_run(items.plain(), out);
+        let Some(read) = items.next() else {
+            return Ok(page.end);
+        };
         let Placed { item, .. } = read?;
         match item {
             Item::Literal(byte) => page.push(byte, out),
@@ -48,7 +54,6 @@ fn set_out_text<H: Host>(
             }
         }
     }
-    Ok(page.end)
 }
 
 impl Finished<'_> {

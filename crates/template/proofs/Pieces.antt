@@ -7,7 +7,7 @@ use Rattle.template.specs.Lexing.{Lexed, byte, hole, fault, Mode, between_pieces
 use Rattle.template.proofs.Lexed.{onward, not_both, move_on, move_close, move_break, no_sign}
 use Rattle.fault.specs.Refusal.{Report, report}
 
-step_move : (mode : Mode) (p b : ℕ) (bs : List ℕ) (mv : Move) → move mode p b ≡ mv → lex mode p (b ∷ bs) ≡ onward mv (p + 1) bs
+pub step_move : (mode : Mode) (p b : ℕ) (bs : List ℕ) (mv : Move) → move mode p b ≡ mv → lex mode p (b ∷ bs) ≡ onward mv (p + 1) bs
 step_move mode p b bs mv e = ap (λ v. onward v (p + 1) bs) e
 
 -- the bytes of a name, after the part of it that is read

@@ -1,7 +1,8 @@
 // The items of a template, one after the other.
-ghost use Rattle.std.specs.Prelude.{◌≡◌, ◌-◌, length};
+ghost use Rattle.std.specs.Prelude.{◌≡◌, ◌+◌, ◌-◌, ◌≤◌, length};
 ghost use Rattle.std.specs.Iterator.{at_most};
-ghost use Rattle.template.specs.Lexing.{Reads};
+ghost use Rattle.std.specs.List.{prefix_len};
+ghost use Rattle.template.specs.Lexing.{Reads, is_plain, lexed_from, literals};
 
 use crate::item::Item;
 use crate::lexer::item_at;
@@ -21,12 +22,38 @@ pub struct Items<'t> {
     pub(crate) at: usize,
 }
 
+// How many bytes come before the first at-sign.
+#[inline(always)]
+fn plain_len(bytes: &[u8]) -> usize
+    ensures len { result ≡ prefix_len is_plain bytes.now }
+    ensures bound { result ≤ length bytes.now }
+{
+    bytes.iter().take_while(|byte| **byte != b'@').count()
+}
+
 impl<'t> Items<'t> {
     pub fn of(template: &'t [u8]) -> Items<'t>
         ensures template { result.template.now ≡ template.now }
         ensures at { result.at ≡ 0 }
     {
         Items { template, at: 0 }
+    }
+
+    // The literals up to the next at-sign or the end, each a byte that stands for itself.
+    #[inline(always)]
+    pub fn plain(&mut self) -> &'t [u8]
+        ensures template { self.new.template ≡ self.old.template }
+        ensures at { self.new.at ≡ self.old.at + length result.now }
+        ensures reads { lexed_from self.old.template.now self.old.at ≡ literals self.old.at result.now (lexed_from self.old.template.now self.new.at) }
+        ensures within { self.old.at ≤ length self.old.template.now → self.new.at ≤ length self.old.template.now }
+    {
+        if self.at >= self.template.len() {
+            return &[];
+        }
+        let rest = &self.template[self.at..];
+        let len = plain_len(rest);
+        self.at += len;
+        &rest[..len]
     }
 }
 

@@ -1,4 +1,4 @@
-use Rattle.std.proofs.Common.{◌≡◌, ◌*◌, ◌≤◌, length, slice_index}
+use Rattle.std.proofs.Common.{◌≡◌, ◌-◌, ◌*◌, ◌≤◌, length, slice_index}
 use Rattle.host.specs.Answers.{bytes_of}
 use Rattle.template.specs.Lexing.{lexed_from}
 use Rattle.printer.specs.Borrowed.{rows_in}
@@ -11,11 +11,14 @@ invariant-loop-read g l =
     let m = g.H.Host.meaning l.host in
     let cs = slice_index (bytes_of l.survey.contexts) in
     let v = value_at (rows_in l.values.rows) in
-    let at = l.read-iterator.at in
+    let t = l.items.template.now in
     record {
-      same_template : l.read-iterator.template.now ≡ l.template;
-      within : at ≤ length l.template;
-      few : l.holes ≤ at;
-      near : l.page.end ≤ 968 * at;
-      same : onward l.page.end l.out (sets_out m cs v (lexed_from l.template at) l.holes) ≡ onward 0 l.initial.out (sets_out m cs v (lexed_from l.template 0) 0);
+      same_template : t ≡ l.template;
+      within : l.items.at ≤ length t;
+      few : l.holes ≤ l.items.at;
+      near : l.page.end ≤ 968 * l.items.at;
+      same : onward l.page.end l.out (sets_out m cs v (lexed_from t l.items.at) l.holes) ≡ onward 0 l.initial.out (sets_out m cs v (lexed_from l.template 0) 0);
     }
+
+abbrev pub decreases-loop-read : goal.decreases-loop-read
+decreases-loop-read g l = length l.template - l.items.at
