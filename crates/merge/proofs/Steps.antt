@@ -1,13 +1,14 @@
 -- From the answers of the calls that a merge makes to what it comes to.
-use Rattle.std.proofs.Common.{◌≡◌, ℕ, ◌+◌, List, ◌∷◌, Some, None, Ok, Err, Result, sym, refl, ap, ◌∙◌}
+use Rattle.std.proofs.Common.{◌≡◌, ℕ, ◌+◌, List, [], ◌∷◌, Some, None, Ok, Err, Result, sym, refl, ap, ◌∙◌}
 use Rattle.host.specs.Meaning.{Meaning}
 use Rattle.host.specs.Answers.{bytes_of}
 use Rattle.host.specs.Run.{Item, literal, hole as gap}
 use Rattle.fault.specs.Refusal.{Refusal, refusal_of}
+use Rattle.template.specs.declared.items.Items.{Items}
 use Rattle.template.specs.declared.survey.Survey.{Survey}
 use Rattle.template.specs.Items.{names_in, names}
 use Rattle.template.specs.Judging.{Verdict, contexts_in, verdict, survey_of}
-use Rattle.template.specs.Lexing.{Lexed, byte, hole, end, fault, lexed_from}
+use Rattle.template.specs.Lexing.{Lexed, byte, hole, end, fault, lexed_from, literals}
 use Rattle.template.proofs.Accepted.{accepted_is}
 use Rattle.template.proofs.Reading.{items_of, nothing, chain_some}
 use Rattle.record.specs.declared.shape.Record.{Record}
@@ -16,14 +17,28 @@ use Rattle.record.specs.declared.shape.State.TheVariants.{Found, End, Refused}
 use Rattle.record.specs.Answers.{value_of, answer, by_state}
 use Rattle.record.specs.Reading.{read_at}
 use Rattle.record.specs.Format.{Pair}
-use Rattle.printer.specs.Calls.{bodies_of}
+use Rattle.printer.specs.declared.borrowed.BorrowedTable.{BorrowedTable}
+use Rattle.printer.specs.declared.filling.Filling.{Filling}
+use Rattle.printer.specs.Calls.{bodies_of, borrowed_state}
 use Rattle.printer.specs.Held.{State}
 use Rattle.printer.specs.Passes.{and_then, set_out}
 use Rattle.printer.specs.Printing.{printed, after, weight}
 use Rattle.printer.proofs.SetOut.{set_out_printed}
 use Rattle.printer.proofs.Writing.{refuses}
-use Rattle.merge.specs.Answers.{bind_pieces, weighed_one, weighed, laid_over, written, record_pairs}
+use Rattle.merge.specs.declared.source.Source.{Source}
+use Rattle.merge.specs.Answers.{bind_pieces, source_pairs, weighed_one, weighed, laid_over, written, record_pairs}
 use Rattle.merge.specs.Merging.{bind_named_lem, bind_all, with_pairs, with_record, merged_by, merged}
+
+-- a run of literals binds nothing
+bound_past : (m : Meaning) (d : Verdict) (ps : List Pair) (e k : ℕ) (st : State) (w : List ℕ) (p : ℕ) (rest : Lexed) → bind_pieces m d ps e st k (literals p w rest) ≡ bind_pieces m d ps e st k rest
+bound_past m d ps e k st [] p rest = refl
+bound_past m d ps e k st (b ∷ bs) p rest = bound_past m d ps e k st bs (p + 1) rest
+
+pub after_plain : (m : Meaning) (s : Survey) (src : Source) (f : Filling) (tb : BorrowedTable) (i i' : Items) (w : List ℕ) (k : ℕ) (all : Result State Refusal) → lexed_from i.template.now i.at ≡ literals i.at w (lexed_from i.template.now i'.at) → all ≡ bind_pieces m (survey_of s) (source_pairs src) src.found.now.end (borrowed_state f tb) k (lexed_from i.template.now i.at) → all ≡ bind_pieces m (survey_of s) (source_pairs src) src.found.now.end (borrowed_state f tb) k (lexed_from i.template.now i'.at)
+after_plain m s src f tb i i' w k all is same =
+    let d = survey_of s in
+    let ps = source_pairs src in
+    same ∙ ap (bind_pieces m d ps src.found.now.end (borrowed_state f tb) k) is ∙ bound_past m d ps src.found.now.end k (borrowed_state f tb) w i.at (lexed_from i.template.now i'.at)
 
 -- the pieces of a template whose notation is kept are bound as its names are
 pieces_named : (m : Meaning) (d : Verdict) (ps : List Pair) (e : ℕ) (l : Lexed) (is : List Item) (st : State) (k : ℕ) → items_of l ≡ Some is → bind_pieces m d ps e st k l ≡ bind_all m d ps e st k (names_in l)

@@ -34,9 +34,9 @@ ended whole old out count len next r s =
     let front = take len out in
     let long : length front ≡ len = length-take-le len out s.within in
     let text : front ++ [] ≡ front = append-nil front in
-    let whole_is : whole ≡ record { count = count; next = next; text = front; refusal = r } = s.same ∙ ap₂ (λ (k : ℕ) (w : List ℕ). let x : Many = record { count = k; next = next; text = w; refusal = r } in x) (omega arith) text in
-    ( sym (ap many_weighed whole_is ∙ ap (λ (k : ℕ). (count, next, k, r)) long)
-    , sym (ap (many_written old) whole_is ∙ ap (λ (k : ℕ). front ++ drop k old) long ∙ ap (λ (l : List ℕ). front ++ l) (sym s.kept) ∙ take-append-drop len out)
+    let whole_is : whole ≡ record { count = count; next = next; text = front; refusal = r } = s.same ∙ ap₂ (λ (k : ℕ) (w : List ℕ). let x : Many = record { count = k; next = next; text = w; refusal = r } in x) (omega arith) text in (
+      sym (ap many_weighed whole_is ∙ ap (λ (k : ℕ). (count, next, k, r)) long),
+      sym (ap (many_written old) whole_is ∙ ap (λ (k : ℕ). front ++ drop k old) long ∙ ap (λ (l : List ℕ). front ++ l) (sym s.kept) ∙ take-append-drop len out),
     )
 
 module _ (m : Meaning) (t input : List ℕ) (whole : Many) (old out new : List ℕ) (count len next most : ℕ) (lt : count < most) where

@@ -49,7 +49,13 @@ fn bind_all<'v, H: Host>(
     let place = source.found.end;
     // Only holes are counted, so `enumerate` does not serve.
     let mut hole = 0;
-    for read in Items::of(template) {
+    let mut items = Items::of(template);
+    // Runs of literals are passed over at once, so no `for` serves.
+    loop {
+        items.plain();
+        let Some(read) = items.next() else {
+            return Ok(());
+        };
         let Placed { item, .. } = read?;
         if let Item::Hole(Hole { name, .. }) = item {
             let value = source
@@ -59,7 +65,6 @@ fn bind_all<'v, H: Host>(
             hole += 1;
         }
     }
-    Ok(())
 }
 
 // Opens a filling of the template, binds its holes, finishes and prints it. The values stay in the input, where they lie.
@@ -81,9 +86,7 @@ fn fill_in<H: Host>(
     let (mut filling, mut table) = open_borrowed(checked);
     bind_all(template, &mut filling, &mut table, host, survey, source)?;
     filling.judge_finish()?;
-    let len = filling
-        .finish()
-        .print_borrowed(&table, host, survey, out)?;
+    let len = filling.finish().print_borrowed(&table, host, survey, out)?;
     Ok(Merged {
         next: source.found.next,
         len,

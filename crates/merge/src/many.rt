@@ -35,7 +35,15 @@ fn merge_behind<H: Host>(
     ensures answer { merged_of result ≡ weighed (merged (H.meaning host.now) checked.now.template.now input.now place (length out.old - behind)) }
     ensures text { out.new ≡ take behind out.old ++ written (drop behind out.old) (merged (H.meaning host.now) checked.now.template.now input.now place (length out.old - behind)) }
 {
-    merge_checked(checked, survey, host, reader, input, place, &mut out[behind..])
+    merge_checked(
+        checked,
+        survey,
+        host,
+        reader,
+        input,
+        place,
+        &mut out[behind..],
+    )
 }
 
 // Merges at most `most` records from a place on, with a template that the host has accepted.

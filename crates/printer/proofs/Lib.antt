@@ -11,3 +11,4 @@ pub mod Bound
 pub mod Surveyed
 pub mod LaidOut
 pub mod SetOut
+pub mod Runs

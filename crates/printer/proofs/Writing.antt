@@ -14,7 +14,7 @@ use Rattle.host.specs.declared.effect.Effect.{Effect}
 use Rattle.host.specs.declared.effect.Recipe.{Recipe}
 use Rattle.host.specs.Answers.{recipe_of, brackets_of}
 use Rattle.template.specs.Judging.{crossing}
-use Rattle.template.specs.Lexing.{Lexed, byte, hole, literals}
+use Rattle.template.specs.Lexing.{Lexed, byte, hole}
 
 pub refuses : {A : Type 0} {r : Refusal} {x : A} → Err r ≡ Ok x → ⊥
 refuses e = cc
@@ -103,14 +103,6 @@ module _ (m : Meaning) (c k i : ℕ) (bs : List ℕ) (end : ℕ) (out : List ℕ
   pub onward_all : length bs ≤ i → onward end out (spelt_out m c k i (drop i bs)) ≡ Ok (end, out)
   onward_all le = at_drop_all (λ l. onward end out (spelt_out m c k i l)) bs i le ∙ onward_none end out
 
-after_same : (x : Result (List ℕ) Refusal) → after (λ t. [] ++ t) x ≡ x
-after_same (Ok t) = refl
-after_same (Err r) = refl
-
-after_after : (b : ℕ) (bs : List ℕ) (x : Result (List ℕ) Refusal) → after (λ t. b ∷ t) (after (λ t. bs ++ t) x) ≡ after (λ t. (b ∷ bs) ++ t) x
-after_after b bs (Ok t) = refl
-after_after b bs (Err r) = refl
-
 -- the closer after a value
 pub onward_closer : (b : Brackets) (x : Result (List ℕ) Refusal) (at e : ℕ) (out o : List ℕ) → Ok (e, o) ≡ onward (at + length b.opener) (overlaid out at b.opener) x → Ok (e + length b.closer, overlaid o e b.closer) ≡ onward at out (framed b x)
 onward_closer b (Ok w) at e out o h =
@@ -147,15 +139,6 @@ module _ (m : Meaning) (cs : ℕ → ℕ) (v : ℕ → List ℕ) (whole rest : L
 
   pub onward_framed : (n : List ℕ) (r : Recipe) (e : ℕ) (o : List ℕ) → whole ≡ hole p n rest → recipe_of r ≡ m.recipe (cs k) → r.takes ≡ true → Ok (e, o) ≡ onward at out (framed (brackets_of r) (spelt_out m r.body k 0 (v k))) → onward at out (sets_out m cs v whole k) ≡ onward e o (sets_out m cs v rest (k + 1))
   onward_framed n r e o is f g h = rw (is, ← f, cond-true r.takes (Some (brackets_of r)) None g) (onward_frame (brackets_of r) _ _ at e out o h)
-
--- a run of literals, and what is left after it
-pub past_run : (m : Meaning) (cs : ℕ → ℕ) (v : ℕ → List ℕ) (w : List ℕ) (p k at end : ℕ) (out new : List ℕ) (whole rest : Lexed) (all : Result (ℕ × List ℕ) Refusal) → whole ≡ literals p w rest → end ≡ at + length w → new ≡ overlaid out at w → onward at out (sets_out m cs v whole k) ≡ all → onward end new (sets_out m cs v rest k) ≡ all
-past_run m cs v w p k at end out new whole rest all is far laid same =
-    rw (far, laid) (sym (onward_more at out w (sets_out m cs v rest k)) ∙ ap (onward at out) (sym (spread w p)) ∙ sym (ap (λ l. onward at out (sets_out m cs v l k)) is) ∙ same)
-  where
-    spread : (w : List ℕ) (p : ℕ) → sets_out m cs v (literals p w rest) k ≡ after (λ t. w ++ t) (sets_out m cs v rest k)
-    spread [] p = sym (after_same (sets_out m cs v rest k))
-    spread (b ∷ bs) p = ap (after (λ t. b ∷ t)) (spread bs (p + 1)) ∙ after_after b bs (sets_out m cs v rest k)
 
 -- a text that is measured, and then written over an output that has room for it
 pub onward_whole : (n : ℕ) (none out new : List ℕ) (x : Result (List ℕ) Refusal) (y : Result ℕ Refusal) → Ok (n, none) ≡ onward 0 [] x → n ≤ length out → after (λ k. (k, new)) y ≡ onward 0 out x → new ≡ output out (fitting (length out) x)

@@ -1,4 +1,4 @@
-use Rattle.std.proofs.Common.{◌≡◌, ◌≤◌, length}
+use Rattle.std.proofs.Common.{◌≡◌, ◌-◌, ◌≤◌, length}
 use Rattle.template.specs.Judging.{survey_of}
 use Rattle.template.specs.Lexing.{lexed_from}
 use Rattle.printer.specs.Calls.{borrowed_state}
@@ -11,11 +11,14 @@ invariant-loop-read g l =
     let d = survey_of l.survey in
     let ps = source_pairs l.source in
     let end = l.source.found.now.end in
-    let at = l.read-iterator.at in
-    (goal.iterator-loop-read g).can_next l.read-iterator
-    × (goal.iterator-loop-read g).is_finite l.read-iterator
-    × (l.read-iterator.template.now ≡ l.template)
-    × (at ≤ length l.template)
-    × (l.hole ≤ at)
-    × (l.filling.template ≡ l.initial.filling.template)
-    × (bind_pieces m d ps end (borrowed_state l.initial.filling l.initial.table) 0 (lexed_from l.template 0) ≡ bind_pieces m d ps end (borrowed_state l.filling l.table) l.hole (lexed_from l.template at))
+    let t = l.items.template.now in
+    record {
+      same_template : t ≡ l.template;
+      within : l.items.at ≤ length t;
+      few : l.hole ≤ l.items.at;
+      kept : l.filling.template ≡ l.initial.filling.template;
+      same : bind_pieces m d ps end (borrowed_state l.initial.filling l.initial.table) 0 (lexed_from l.template 0) ≡ bind_pieces m d ps end (borrowed_state l.filling l.table) l.hole (lexed_from t l.items.at);
+    }
+
+abbrev pub decreases-loop-read : goal.decreases-loop-read
+decreases-loop-read g l = length l.template - l.items.at
