@@ -13,11 +13,13 @@ ghost use Rattle.merge.specs.Merging.{with_pairs, merged};
 
 pub mod many;
 pub mod merged;
+mod prepared;
 mod source;
 
 use fault::Fault;
 use host::Host;
 use merged::Merged;
+use prepared::Prepared;
 use printer::borrowed::BorrowedTable;
 use printer::filling::Filling;
 use printer::open::open_borrowed;
@@ -70,18 +72,19 @@ fn bind_all<'v, H: Host>(
 // Opens a filling of the template, binds its holes, finishes and prints it. The values stay in the input, where they lie.
 #[tactic(auto, using(crate::proofs::Steps::pieces_bound))]
 fn fill_in<H: Host>(
-    checked: &Checked<'_>,
-    survey: &Survey,
-    host: &H,
+    prepared: &Prepared<'_, '_, H>,
     source: &Source<'_>,
     out: &mut [u8],
 ) -> Result<Merged, Fault>
-    requires survey { verdict (H.meaning host.now) checked.now.template.now ≡ survey_of survey.now }
-    requires holes { checked.now.holes ≡ survey.now.bodies.len }
-    requires contexts { bytes_of survey.now.contexts ≡ contexts_in (H.meaning host.now) (lexed_from checked.now.template.now 0) 0 }
-    ensures answer { completed_of result ≡ weighed_one (with_pairs (H.meaning host.now) (survey_of survey.now) checked.now.template.now survey.now.bodies.len (length out.old) (source_pairs source.now) source.now.found.now.end source.now.found.now.next) }
-    ensures text { out.new ≡ laid_over out.old (with_pairs (H.meaning host.now) (survey_of survey.now) checked.now.template.now survey.now.bodies.len (length out.old) (source_pairs source.now) source.now.found.now.end source.now.found.now.next) }
+    ensures answer { completed_of result ≡ weighed_one (with_pairs (H.meaning prepared.now.host.now) (survey_of prepared.now.survey) prepared.now.checked.template.now prepared.now.survey.bodies.len (length out.old) (source_pairs source.now) source.now.found.now.end source.now.found.now.next) }
+    ensures text { out.new ≡ laid_over out.old (with_pairs (H.meaning prepared.now.host.now) (survey_of prepared.now.survey) prepared.now.checked.template.now prepared.now.survey.bodies.len (length out.old) (source_pairs source.now) source.now.found.now.end source.now.found.now.next) }
 {
+    let Prepared {
+        checked,
+        survey,
+        ..
+    } = prepared;
+    let host = prepared.host;
     let template = checked.template();
     let (mut filling, mut table) = open_borrowed(checked);
     bind_all(template, &mut filling, &mut table, host, survey, source)?;
@@ -95,27 +98,22 @@ fn fill_in<H: Host>(
 
 // Merges the record that the reader reads at a place of the input, into a template that the host has accepted.
 #[tactic(auto, using(crate::proofs::Steps::comes_found, crate::proofs::Steps::comes_none, crate::proofs::Steps::comes_refused, crate::proofs::Steps::weighed_some, crate::proofs::Steps::written_some))]
-pub(crate) fn merge_checked<H: Host>(
-    checked: &Checked<'_>,
-    survey: &Survey,
-    host: &H,
+pub(crate) fn merge_prepared<H: Host>(
+    prepared: &Prepared<'_, '_, H>,
     reader: &mut Reader,
     input: &[u8],
     place: usize,
     out: &mut [u8],
 ) -> Result<Option<Merged>, Fault>
-    requires survey { verdict (H.meaning host.now) checked.now.template.now ≡ survey_of survey.now }
-    requires holes { checked.now.holes ≡ survey.now.bodies.len }
-    requires contexts { bytes_of survey.now.contexts ≡ contexts_in (H.meaning host.now) (lexed_from checked.now.template.now 0) 0 }
-    ensures answer { merged_of result ≡ weighed (merged (H.meaning host.now) checked.now.template.now input.now place (length out.old)) }
-    ensures text { out.new ≡ written out.old (merged (H.meaning host.now) checked.now.template.now input.now place (length out.old)) }
+    ensures answer { merged_of result ≡ weighed (merged (H.meaning prepared.now.host.now) prepared.now.checked.template.now input.now place (length out.old)) }
+    ensures text { out.new ≡ written out.old (merged (H.meaning prepared.now.host.now) prepared.now.checked.template.now input.now place (length out.old)) }
 {
     reader.read(input, place);
     let found = reader.found();
     match found.state {
         State::Found => {
             let source = Source { input, found };
-            fill_in(checked, survey, host, &source, out).map(Some)
+            fill_in(prepared, &source, out).map(Some)
         }
         State::End => Ok(None),
         State::Refused => Err(found.fault),
@@ -136,8 +134,13 @@ pub fn merge_under<H: Host>(
     ensures law { WhereMerged result (λ x. ReadsAsRecord (H.meaning host.now) template.entry.template.now input.now place x.next (take x.len out.new)) }
 {
     let (checked, survey) = check_and_survey(template, host)?;
+    let prepared = Prepared {
+        checked,
+        survey,
+        host,
+    };
     let mut reader = Reader::new();
-    merge_checked(&checked, &survey, host, &mut reader, input, place, out)
+    merge_prepared(&prepared, &mut reader, input, place, out)
 }
 
 // Merges likewise under the host of a sheet, and clears the sheet at the end in any case.

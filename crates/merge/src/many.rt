@@ -1,66 +1,44 @@
 // Merging records one after another into one template.
 ghost use Rattle.std.specs.Prelude.{◌≡◌, ◌+◌, ◌-◌, ◌≤◌, ◌++◌, length, take, drop, None};
-ghost use Rattle.host.specs.Answers.{bytes_of};
-ghost use Rattle.template.specs.Judging.{contexts_in, verdict, survey_of};
-ghost use Rattle.template.specs.Lexing.{lexed_from};
 ghost use Rattle.merge.specs.Answers.{merged_of, weighed, written};
 ghost use Rattle.merge.specs.Many.{merged_on, merged_many, many_told, many_weighed, many_written};
 ghost use Rattle.merge.specs.Merging.{merged};
 
-use crate::merge_checked;
+use crate::merge_prepared;
 use crate::merged::{Merged, Merges};
+use crate::prepared::Prepared;
 use fault::Fault;
 use host::Host;
 use record::Reader;
 use template::check::check_and_survey;
-use template::checked::Checked;
 use template::raw::Raw;
-use template::survey::Survey;
 
 // Merges the record at a place of the input, and writes its text into the output behind what is written there.
 fn merge_behind<H: Host>(
-    checked: &Checked<'_>,
-    survey: &Survey,
-    host: &H,
+    prepared: &Prepared<'_, '_, H>,
     reader: &mut Reader,
     input: &[u8],
     place: usize,
     behind: usize,
     out: &mut [u8],
 ) -> Result<Option<Merged>, Fault>
-    requires survey { verdict (H.meaning host.now) checked.now.template.now ≡ survey_of survey.now }
-    requires holes { checked.now.holes ≡ survey.now.bodies.len }
-    requires contexts { bytes_of survey.now.contexts ≡ contexts_in (H.meaning host.now) (lexed_from checked.now.template.now 0) 0 }
     requires within { behind ≤ length out.old }
-    ensures answer { merged_of result ≡ weighed (merged (H.meaning host.now) checked.now.template.now input.now place (length out.old - behind)) }
-    ensures text { out.new ≡ take behind out.old ++ written (drop behind out.old) (merged (H.meaning host.now) checked.now.template.now input.now place (length out.old - behind)) }
+    ensures answer { merged_of result ≡ weighed (merged (H.meaning prepared.now.host.now) prepared.now.checked.template.now input.now place (length out.old - behind)) }
+    ensures text { out.new ≡ take behind out.old ++ written (drop behind out.old) (merged (H.meaning prepared.now.host.now) prepared.now.checked.template.now input.now place (length out.old - behind)) }
 {
-    merge_checked(
-        checked,
-        survey,
-        host,
-        reader,
-        input,
-        place,
-        &mut out[behind..],
-    )
+    merge_prepared(prepared, reader, input, place, &mut out[behind..])
 }
 
 // Merges at most `most` records from a place on, with a template that the host has accepted.
 fn merge_on<H: Host>(
-    checked: &Checked<'_>,
-    survey: &Survey,
-    host: &H,
+    prepared: &Prepared<'_, '_, H>,
     input: &[u8],
     place: usize,
     most: usize,
     out: &mut [u8],
 ) -> Merges
-    requires survey { verdict (H.meaning host.now) checked.now.template.now ≡ survey_of survey.now }
-    requires holes { checked.now.holes ≡ survey.now.bodies.len }
-    requires contexts { bytes_of survey.now.contexts ≡ contexts_in (H.meaning host.now) (lexed_from checked.now.template.now 0) 0 }
-    ensures answer { many_told result ≡ many_weighed (merged_on (H.meaning host.now) checked.now.template.now input.now most place (length out.old)) }
-    ensures text { out.new ≡ many_written out.old (merged_on (H.meaning host.now) checked.now.template.now input.now most place (length out.old)) }
+    ensures answer { many_told result ≡ many_weighed (merged_on (H.meaning prepared.now.host.now) prepared.now.checked.template.now input.now most place (length out.old)) }
+    ensures text { out.new ≡ many_written out.old (merged_on (H.meaning prepared.now.host.now) prepared.now.checked.template.now input.now most place (length out.old)) }
 {
     let mut done = Merges {
         count: 0,
@@ -70,16 +48,7 @@ fn merge_on<H: Host>(
     };
     let mut reader = Reader::new();
     while done.count < most {
-        match merge_behind(
-            checked,
-            survey,
-            host,
-            &mut reader,
-            input,
-            done.next,
-            done.len,
-            out,
-        ) {
+        match merge_behind(prepared, &mut reader, input, done.next, done.len, out) {
             Ok(Some(Merged { next, len })) => {
                 done.count += 1;
                 done.next = next;
@@ -109,7 +78,14 @@ pub fn merge_many<H: Host>(
     ensures text { out.new ≡ many_written out.old (merged_many (H.meaning host.now) template.entry.template.now input.now place most (length out.old)) }
 {
     match check_and_survey(template, host) {
-        Ok((checked, survey)) => merge_on(&checked, &survey, host, input, place, most, out),
+        Ok((checked, survey)) => {
+            let prepared = Prepared {
+                checked,
+                survey,
+                host,
+            };
+            merge_on(&prepared, input, place, most, out)
+        }
         Err(fault) => Merges {
             count: 0,
             next: place,

@@ -10,13 +10,13 @@ use Rattle.merge.proofs.fill_in.Goals as goal
 
 pub returns-in_err-len : goal.returns-in_err-len
 returns-in_err-len g c =
-    let m = g.H.Host.meaning c.args.host.now in
-    let t = c.args.checked.now.template.now in
+    let m = g.H.Host.meaning c.args.prepared.now.host.now in
+    let t = c.args.prepared.now.checked.template.now in
     let v = value_at (rows_in c.bind_all.new.table.rows) in
     let room = length c.args.out.now in
     let q = refusal_of c.in_err-len.field-0.0 in
-    let told : Err q ≡ weight (set_out m (bytes_of c.args.survey.now.contexts) v t room) = search rules in
-    let no_text : printed m v t room ≡ Err q = unprinted m v t c.args.survey.now room q c.requires.survey c.requires.contexts told in
+    let told : Err q ≡ weight (set_out m (bytes_of c.args.prepared.now.survey.contexts) v t room) = search rules in
+    let no_text : printed m v t room ≡ Err q = unprinted m v t c.args.prepared.now.survey room q c.args.prepared.now.accepted c.args.prepared.now.contexts told in
     record {
       answer = grind (arith, pieces_bound);
       text = grind (arith, pieces_bound);
