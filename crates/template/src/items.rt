@@ -1,5 +1,5 @@
 // The items of a template, one after the other.
-ghost use Rattle.std.specs.Prelude.{◌≡◌, ◌+◌, ◌-◌, ◌≤◌, length};
+ghost use Rattle.std.specs.Prelude.{◌≡◌, ◌+◌, ◌-◌, ◌≤◌, false, length};
 ghost use Rattle.std.specs.Iterator.{at_most};
 ghost use Rattle.std.specs.List.{prefix_len};
 ghost use Rattle.template.specs.Lexing.{Reads, is_plain, lexed_from, literals};
@@ -22,13 +22,43 @@ pub struct Items<'t> {
     pub(crate) at: usize,
 }
 
-// How many bytes come before the first at-sign.
+// Whether an at-sign is among the bytes. Each is looked at, so that a processor may look at many at once.
 #[inline(always)]
-fn plain_len(bytes: &[u8]) -> usize
+#[tactic(auto, using(crate::proofs::Signs::past_plain, crate::proofs::Signs::all_plain))]
+fn has_sign(bytes: &[u8]) -> bool
+    ensures { result ≡ false → prefix_len is_plain bytes.now ≡ length bytes.now }
+{
+    let mut found = false;
+    for byte in bytes {
+        found |= *byte == b'@';
+    }
+    found
+}
+
+// How many bytes come before the first at-sign, looked at one by one.
+#[inline(always)]
+fn first_sign(bytes: &[u8]) -> usize
     ensures len { result ≡ prefix_len is_plain bytes.now }
     ensures bound { result ≤ length bytes.now }
 {
     bytes.iter().take_while(|byte| **byte != b'@').count()
+}
+
+// How many bytes are looked at together.
+const CHUNK: usize = 16;
+
+// How many bytes come before the first at-sign.
+#[inline(always)]
+#[tactic(auto, using(crate::proofs::Signs::first_plain))]
+fn plain_len(bytes: &[u8]) -> usize
+    ensures len { result ≡ prefix_len is_plain bytes.now }
+    ensures bound { result ≤ length bytes.now }
+{
+    let mut at = 0;
+    while bytes.len() - at >= CHUNK && !has_sign(&bytes[at..at + CHUNK]) {
+        at += CHUNK;
+    }
+    at + first_sign(&bytes[at..])
 }
 
 impl<'t> Items<'t> {
