@@ -7,7 +7,7 @@
  * A slice is a pointer and a length. No pointer may be null, not even for a slice of no bytes, and `out` may overlap none of
  * the others. Nothing is kept from one call to the next, no memory is asked for, and a call may run beside others.
  *
- * Link with the static library that `rt staticlib gabirong_c` makes. */
+ * Link with crates/gabirong_c/out/libgabirong_c.a, which `rt lib` makes in crates/gabirong_c. */
 #ifndef GABIRONG_H
 #define GABIRONG_H
 
