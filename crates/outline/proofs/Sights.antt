@@ -9,7 +9,8 @@ use Rattle.template.specs.declared.item.Item.{Item}
 use Rattle.template.specs.declared.item.Item.TheVariants.{Literal, Hole}
 use Rattle.template.specs.declared.items.Items.{Items}
 use Rattle.template.specs.declared.items.Placed.{Placed}
-use Rattle.template.specs.Lexing.{Lexed, hole, lexed_from, then, Reads}
+use Rattle.template.specs.Lexing.{Lexed, hole, lexed_from, then}
+use Rattle.template.specs.Walk.{Reads}
 use Rattle.template.specs.Judging.{crossing, decide}
 use Rattle.outline.specs.declared.visit.Visit.{Visit}
 use Rattle.outline.specs.Visits.{Sight, sight, literal, gap, met_of, sight_of, passing}

@@ -1,5 +1,5 @@
 -- What an item that was read tells of what is left of the template.
-use Rattle.std.proofs.Common.{◌≡◌, ℕ, suc, ◌+◌, Bool, true, false, List, [], ◌∷◌, take, drop, Some, Ok, ◌==◌, refl, sym, ap, ◌∙◌, arith}
+use Rattle.std.proofs.Common.{◌≡◌, ℕ, suc, ◌+◌, ◌≤◌, Bool, true, false, List, [], ◌∷◌, length, take, drop, Some, Ok, ◌==◌, refl, sym, ap, ◌∙◌, subst, arith}
 use Rattle.std.proofs.lemmas.Bool.{cond-false}
 use Rattle.std.proofs.lemmas.List.{drop-drop}
 use Rattle.std.specs.List.{prefix_len}
@@ -8,10 +8,16 @@ use Rattle.template.specs.declared.item.Item.TheVariants.{Literal, Hole as gap}
 use Rattle.template.specs.declared.items.Items.{Items}
 use Rattle.template.specs.declared.items.Placed.{Placed}
 use Rattle.template.proofs.Pieces.{step_move}
-use Rattle.template.specs.Lexing.{byte, hole, then, between_pieces, lex, lexed_from, is_plain, literals, Reads}
+use Rattle.template.specs.Lexing.{byte, hole, then, between_pieces, lex, lexed_from, EndsAt, is_plain, literals}
+use Rattle.template.specs.Walk.{Reads}
 
 pub reads_hole : (s t : Items) (x : Placed) (h : Hole) (bs : List ℕ) → Reads s (Some (Ok x)) t → s.template.now ≡ bs → x.item ≡ gap h → lexed_from bs s.at ≡ hole h.place h.name.now (lexed_from bs t.at)
 reads_hole s t x h bs r same is = ap (λ l. lexed_from l s.at) (sym same) ∙ sym r.reads ∙ ap (λ l. then x.item x.place (lexed_from l t.at)) same ∙ ap (λ i. then i x.place (lexed_from bs t.at)) is
+
+pub hole_ends : (s t : Items) (x : Placed) (h : Hole) → Reads s (Some (Ok x)) t → x.item ≡ gap h → length s.template.now ≤ 3584 → h.place + length h.name.now + 3 ≤ 3584
+hole_ends s t x h r is short =
+    let at : h.place + length h.name.now + 3 ≡ t.at = subst (λ i. EndsAt i t.at) is r.onward.3 in
+    omega (arith, at, r.onward.2, short)
 
 pub reads_literal : (s t : Items) (x : Placed) (b : ℕ) (bs : List ℕ) → Reads s (Some (Ok x)) t → s.template.now ≡ bs → x.item ≡ Literal b → lexed_from bs s.at ≡ byte x.place b (lexed_from bs t.at)
 reads_literal s t x b bs r same is = ap (λ l. lexed_from l s.at) (sym same) ∙ sym r.reads ∙ ap (λ l. then x.item x.place (lexed_from l t.at)) same ∙ ap (λ i. then i x.place (lexed_from bs t.at)) is

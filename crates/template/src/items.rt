@@ -1,12 +1,9 @@
 // The items of a template, one after the other.
-ghost use Rattle.std.specs.Prelude.{◌≡◌, ◌+◌, ◌-◌, ◌≤◌, false, length};
-ghost use Rattle.std.specs.Iterator.{at_most};
+ghost use Rattle.std.specs.Prelude.{◌≡◌, ◌+◌, ◌≤◌, false, length, take, drop};
 ghost use Rattle.std.specs.List.{prefix_len};
-ghost use Rattle.template.specs.Lexing.{Reads, is_plain, lexed_from, literals};
+ghost use Rattle.template.specs.Lexing.{is_plain, lexed_from, literals, ends_in};
 
 use crate::item::Item;
-use crate::lexer::item_at;
-use fault::Flaw;
 
 // An item, and the place where it begins.
 #[derive(Clone, Copy)]
@@ -15,11 +12,13 @@ pub struct Placed<'t> {
     pub item: Item<'t>,
 }
 
-// What is left of a template from a place on.
+// What is left of a template from a place on. Where it is known of the next holes where they end, their names are passed over.
 #[derive(Drop)]
 pub struct Items<'t> {
     pub(crate) template: &'t [u8],
     pub(crate) at: usize,
+    pub(crate) ends: &'t [u16],
+    ghost known: { take (length ends.now) (ends_in (lexed_from template.now at)) ≡ ends.now },
 }
 
 // Whether an at-sign is among the bytes. Each is looked at, so that a processor may look at many at once.
@@ -66,7 +65,25 @@ impl<'t> Items<'t> {
         ensures template { result.template.now ≡ template.now }
         ensures at { result.at ≡ 0 }
     {
-        Items { template, at: 0 }
+        let ends = &[];
+        Items {
+            template,
+            at: 0,
+            ends,
+        }
+    }
+
+    // The items of a template of which it is known where its holes end.
+    pub(crate) fn known(template: &'t [u8], ends: &'t [u16]) -> Items<'t>
+        requires { take (length ends.now) (ends_in (lexed_from template.now 0)) ≡ ends.now }
+        ensures template { result.template.now ≡ template.now }
+        ensures at { result.at ≡ 0 }
+    {
+        Items {
+            template,
+            at: 0,
+            ends,
+        }
     }
 
     // The literals up to the next at-sign or the end, each a byte that stands for itself.
@@ -74,6 +91,7 @@ impl<'t> Items<'t> {
     pub fn plain(&mut self) -> &'t [u8]
         ensures template { self.new.template ≡ self.old.template }
         ensures at { self.new.at ≡ self.old.at + length result.now }
+        ensures whole { length result.now ≡ prefix_len is_plain (drop self.old.at self.old.template.now) }
         ensures reads { lexed_from self.old.template.now self.old.at ≡ literals self.old.at result.now (lexed_from self.old.template.now self.new.at) }
         ensures within { self.old.at ≤ length self.old.template.now → self.new.at ≤ length self.old.template.now }
     {
@@ -84,30 +102,5 @@ impl<'t> Items<'t> {
         let len = plain_len(rest);
         self.at += len;
         &rest[..len]
-    }
-}
-
-// A fault of notation is the last that comes.
-impl<'t> Iterator for Items<'t> {
-    type Item = Result<Placed<'t>, Flaw>;
-
-    ghost next_gives = { Reads };
-
-    ghost remaining = { λ s. at_most (length s.template.now - s.at) };
-
-    #[inline(always)]
-    fn next(&mut self) -> Option<Result<Placed<'t>, Flaw>> {
-        let place = self.at;
-        match item_at(self.template, place) {
-            Ok(Some((item, next))) => {
-                self.at = next;
-                Some(Ok(Placed { place, item }))
-            }
-            Ok(None) => None,
-            Err(flaw) => {
-                self.at = self.template.len();
-                Some(Err(flaw))
-            }
-        }
     }
 }

@@ -3,7 +3,8 @@ use Rattle.fault.specs.declared.flaw.Flaw.{Flaw}
 use Rattle.fault.specs.declared.failure.Failure.{Failure}
 use Rattle.fault.specs.declared.failure.Failure.TheVariants.{Refused, NoMemory}
 use Rattle.host.specs.Run.{run, run_hole, plan}
-use Rattle.template.specs.Lexing.{lexed_from, Reads}
+use Rattle.template.specs.Lexing.{lexed_from}
+use Rattle.template.specs.Walk.{Reads}
 use Rattle.template.specs.Judging.{Verdict, verdict}
 use Rattle.template.proofs.Read.{reads_hole}
 use Rattle.outline.specs.Telling.{Tells}

@@ -1,5 +1,5 @@
 use Rattle.std.proofs.Common.{◌≡◌, [], ◌∷◌, ◌++◌, Some, Ok, vec_items, rules}
-use Rattle.template.specs.Lexing.{Reads}
+use Rattle.template.specs.Walk.{Reads}
 use Rattle.outline.specs.declared.visit.Visit.{Visit}
 use Rattle.outline.specs.Visits.{passing}
 use Rattle.outline.proofs.Walks.{accepted_walks}
