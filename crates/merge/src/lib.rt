@@ -30,7 +30,7 @@ use source::Source;
 use template::check::check_and_survey;
 use template::checked::Checked;
 use template::item::{Hole, Item};
-use template::items::{Items, Placed};
+use template::items::Placed;
 use template::raw::Raw;
 use template::survey::Survey;
 
@@ -38,20 +38,20 @@ use template::survey::Survey;
 // Filling, table and survey come one by one, as the printer's calls take them: a struct of the three would be taken apart at each.
 // A loan of a whole struct may write each field, so each call says that the template stays.
 fn bind_all<'v, H: Host>(
-    template: &[u8],
+    checked: &Checked<'_>,
     filling: &mut Filling<'_>,
     table: &mut BorrowedTable<'v>,
     host: &H,
     survey: &Survey,
-    source: &Source<'v>,
+    source: &Source<'v, '_>,
 ) -> Result<(), Fault>
-    ensures came { came_to result (borrowed_state filling.new table.new) ≡ bind_pieces (H.meaning host.now) (survey_of survey.now) (source_pairs source.now) source.now.found.now.end (borrowed_state filling.old table.old) 0 (lexed_from template.now 0) }
+    ensures came { came_to result (borrowed_state filling.new table.new) ≡ bind_pieces (H.meaning host.now) (survey_of survey.now) (source_pairs source.now) source.now.found.now.end (borrowed_state filling.old table.old) 0 (lexed_from checked.now.template.now 0) }
     ensures template { filling.new.template ≡ filling.old.template }
 {
     let place = source.found.end;
     // Only holes are counted, so `enumerate` does not serve.
     let mut hole = 0;
-    let mut items = Items::of(template);
+    let mut items = checked.items();
     // Runs of literals are passed over at once, so no `for` serves.
     loop {
         items.plain();
@@ -71,9 +71,10 @@ fn bind_all<'v, H: Host>(
 
 // Opens a filling of the template, binds its holes, finishes and prints it. The values stay in the input, where they lie.
 #[tactic(auto, using(crate::proofs::Steps::pieces_bound))]
-fn fill_in<H: Host>(
+fn fill_in<'v, H: Host>(
     prepared: &Prepared<'_, '_, H>,
-    source: &Source<'_>,
+    table: &mut BorrowedTable<'v>,
+    source: &Source<'v, '_>,
     out: &mut [u8],
 ) -> Result<Merged, Fault>
     ensures answer { completed_of result ≡ weighed_one (with_pairs (H.meaning prepared.now.host.now) (survey_of prepared.now.survey) prepared.now.checked.template.now prepared.now.survey.bodies.len (length out.old) (source_pairs source.now) source.now.found.now.end source.now.found.now.next) }
@@ -85,11 +86,10 @@ fn fill_in<H: Host>(
         ..
     } = prepared;
     let host = prepared.host;
-    let template = checked.template();
-    let (mut filling, mut table) = open_borrowed(checked);
-    bind_all(template, &mut filling, &mut table, host, survey, source)?;
+    let mut filling = open_borrowed(checked, table);
+    bind_all(checked, &mut filling, table, host, survey, source)?;
     filling.judge_finish()?;
-    let len = filling.finish().print_borrowed(&table, host, survey, out)?;
+    let len = filling.finish().print_borrowed(table, host, survey, out)?;
     Ok(Merged {
         next: source.found.next,
         len,
@@ -98,10 +98,11 @@ fn fill_in<H: Host>(
 
 // Merges the record that the reader reads at a place of the input, into a template that the host has accepted.
 #[tactic(auto, using(crate::proofs::Steps::comes_found, crate::proofs::Steps::comes_none, crate::proofs::Steps::comes_refused, crate::proofs::Steps::weighed_some, crate::proofs::Steps::written_some))]
-pub(crate) fn merge_prepared<H: Host>(
+pub(crate) fn merge_prepared<'v, H: Host>(
     prepared: &Prepared<'_, '_, H>,
     reader: &mut Reader,
-    input: &[u8],
+    table: &mut BorrowedTable<'v>,
+    input: &'v [u8],
     place: usize,
     out: &mut [u8],
 ) -> Result<Option<Merged>, Fault>
@@ -113,7 +114,7 @@ pub(crate) fn merge_prepared<H: Host>(
     match found.state {
         State::Found => {
             let source = Source { input, found };
-            fill_in(prepared, &source, out).map(Some)
+            fill_in(prepared, table, &source, out).map(Some)
         }
         State::End => Ok(None),
         State::Refused => Err(found.fault),
@@ -139,8 +140,8 @@ pub fn merge_under<H: Host>(
         survey,
         host,
     };
-    let mut reader = Reader::new();
-    merge_prepared(&prepared, &mut reader, input, place, out)
+    let (mut reader, mut table) = (Reader::new(), BorrowedTable::new());
+    merge_prepared(&prepared, &mut reader, &mut table, input, place, out)
 }
 
 // Merges likewise under the host of a sheet, and clears the sheet at the end in any case.

@@ -9,15 +9,17 @@ use crate::merged::{Merged, Merges};
 use crate::prepared::Prepared;
 use fault::Fault;
 use host::Host;
+use printer::borrowed::BorrowedTable;
 use record::Reader;
 use template::check::check_and_survey;
 use template::raw::Raw;
 
 // Merges the record at a place of the input, and writes its text into the output behind what is written there.
-fn merge_behind<H: Host>(
+fn merge_behind<'v, H: Host>(
     prepared: &Prepared<'_, '_, H>,
     reader: &mut Reader,
-    input: &[u8],
+    table: &mut BorrowedTable<'v>,
+    input: &'v [u8],
     place: usize,
     behind: usize,
     out: &mut [u8],
@@ -26,7 +28,7 @@ fn merge_behind<H: Host>(
     ensures answer { merged_of result ≡ weighed (merged (H.meaning prepared.now.host.now) prepared.now.checked.template.now input.now place (length out.old - behind)) }
     ensures text { out.new ≡ take behind out.old ++ written (drop behind out.old) (merged (H.meaning prepared.now.host.now) prepared.now.checked.template.now input.now place (length out.old - behind)) }
 {
-    merge_prepared(prepared, reader, input, place, &mut out[behind..])
+    merge_prepared(prepared, reader, table, input, place, &mut out[behind..])
 }
 
 // Merges at most `most` records from a place on, with a template that the host has accepted.
@@ -46,9 +48,9 @@ fn merge_on<H: Host>(
         len: 0,
         refusal: None,
     };
-    let mut reader = Reader::new();
+    let (mut reader, mut table) = (Reader::new(), BorrowedTable::new());
     while done.count < most {
-        match merge_behind(prepared, &mut reader, input, done.next, done.len, out) {
+        match merge_behind(prepared, &mut reader, &mut table, input, done.next, done.len, out) {
             Ok(Some(Merged { next, len })) => {
                 done.count += 1;
                 done.next = next;

@@ -9,14 +9,14 @@ use record::table::{find, part};
 
 // A record that was found, with the input that it was read from.
 #[derive(Clone, Copy)]
-pub struct Source<'a> {
-    pub input: &'a [u8],
-    pub found: &'a Record,
+pub struct Source<'v, 'f> {
+    pub input: &'v [u8],
+    pub found: &'f Record,
 }
 
-impl<'a> Source<'a> {
+impl<'v> Source<'v, '_> {
     // The record's value of a name.
-    pub fn value_of(&self, name: &[u8]) -> Option<&'a [u8]>
+    pub fn value_of(&self, name: &[u8]) -> Option<&'v [u8]>
         ensures { option_map (λ v. v.now) result ≡ value_of name.now (source_pairs self.now) }
     {
         find(self.input, self.found, name).map(|value| part(self.input, value))

@@ -1,6 +1,6 @@
 // A table for the time of one filling, which borrows: in place of a row with a copy of a value it has the value's bytes where
 // they lie.
-ghost use Rattle.std.specs.Prelude.{◌≡◌, ◌<◌, ◌≤◌, true, [], length, Some, slice_set};
+ghost use Rattle.std.specs.Prelude.{◌≡◌, ◌-◌, ◌<◌, ◌≤◌, true, [], length, drop, Some, slice_set};
 ghost use Rattle.printer.specs.Borrowed.{rows_in};
 ghost use Rattle.printer.specs.Rows.{fit, row_of, blank, value_at};
 
@@ -21,22 +21,36 @@ impl<'v> BorrowedRow<'v> {
     }
 }
 
-// The 64 rows: each value has at most 160 bytes.
+// The 64 rows: each value has at most 160 bytes. The rows from `used` on hold nothing, so that the table is soon cleared.
 #[derive(Drop)]
 pub struct BorrowedTable<'v> {
     rows: [BorrowedRow<'v>; MAX_HOLES],
+    used: usize,
     ghost fits: { fit (rows_in rows) ≡ true },
     ghost all: { length rows ≡ 64 },
+    ghost few: { used ≤ 64 },
+    ghost rest: { rows_in (drop used rows) ≡ blank (64 - used) },
 }
 
 impl<'v> BorrowedTable<'v> {
     // A table of rows that hold nothing.
-    pub(crate) fn new() -> BorrowedTable<'v>
+    pub fn new() -> BorrowedTable<'v>
         ensures { rows_in result.rows ≡ blank 64 }
     {
         let row = BorrowedRow::empty();
         BorrowedTable {
             rows: [row; MAX_HOLES],
+            used: 0,
+        }
+    }
+
+    // Makes all rows hold nothing.
+    pub(crate) fn clear(&mut self)
+        ensures { rows_in self.new.rows ≡ blank 64 }
+    {
+        while self.used > 0 {
+            self.rows[self.used - 1] = BorrowedRow::empty();
+            self.used -= 1;
         }
     }
 
@@ -46,6 +60,7 @@ impl<'v> BorrowedTable<'v> {
         requires short { length value.now ≤ 160 }
         ensures { rows_in self.new.rows ≡ slice_set (rows_in self.old.rows) hole (row_of (Some value.now)) }
     {
+        self.used = self.used.max(hole + 1);
         self.rows[hole] = BorrowedRow { value };
     }
 

@@ -1,11 +1,15 @@
 // The filling of a template: which of its holes are owed.
 ghost use Rattle.std.specs.Prelude.{◌≡◌, ℕ, ◌+◌, ◌-◌, ◌^◌, ◌<◌, ◌≤◌, true, false, length, Ok, count_ones};
 ghost use Rattle.fault.specs.Refusal.{told};
+ghost use Rattle.template.specs.Ends.{places_of};
+ghost use Rattle.template.specs.Lexing.{ends_in, lexed_from};
 ghost use Rattle.printer.specs.Held.{Marks, owed_bit, lowest_bit, judged_finish};
 ghost use Rattle.printer.specs.Slate.{Slate, owed_at, how_many, lowest, judge_finish_lem};
 
 use crate::finished::Finished;
 use fault::Fault;
+use template::checked::Checked;
+use template::ends::Ends;
 use template::survey::MAX_HOLES;
 
 // A template that is being filled. A hole is owed until it has a value: hole k is owed where bit k of the map is 1, and
@@ -14,9 +18,11 @@ use template::survey::MAX_HOLES;
 pub struct Filling<'t> {
     pub(crate) template: &'t [u8],
     pub(crate) holes: usize,
+    ends: Ends,
     owed: u64,
     ghost few: { holes ≤ 64 },
     ghost within: { owed < 2 ^ holes },
+    ghost ended: { places_of ends ≡ ends_in (lexed_from template.now 0) },
 }
 
 // The map with a bit for each hole.
@@ -33,15 +39,16 @@ fn all(holes: usize) -> u64
 
 impl<'t> Filling<'t> {
     // Every hole is owed.
-    pub(crate) fn new(template: &'t [u8], holes: usize) -> Filling<'t>
-        requires { holes ≤ 64 }
-        ensures template { result.template.now ≡ template.now }
-        ensures holes { result.holes ≡ holes }
-        ensures owed { result.owed ≡ 2 ^ holes - 1 }
+    pub(crate) fn new(checked: &Checked<'t>) -> Filling<'t>
+        ensures template { result.template.now ≡ checked.now.template.now }
+        ensures holes { result.holes ≡ checked.now.holes }
+        ensures owed { result.owed ≡ 2 ^ checked.now.holes - 1 }
     {
+        let holes = checked.holes();
         Filling {
-            template,
+            template: checked.template(),
             holes,
+            ends: *checked.ends(),
             owed: all(holes),
         }
     }
@@ -107,6 +114,6 @@ impl<'t> Filling<'t> {
         ensures holes { result.holes ≡ self.entry.holes }
         ensures slate { (ss : Slate) (k : ℕ) → Marks self.entry.holes self.entry.owed ss → owed_at ss k ≡ false }
     {
-        Finished::new(self.template, self.holes)
+        Finished::new(self.template, self.holes, self.ends)
     }
 }

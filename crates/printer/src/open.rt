@@ -17,18 +17,16 @@ pub fn open<'t, H: Host>(checked: Checked<'t>, sheet: &mut Sheet<H>) -> Filling<
     ensures host { sheet.new.host ≡ sheet.old.host }
     ensures slate { Holds (state_of result sheet.new.table) (fresh checked.entry.holes) }
 {
-    let template = checked.template();
-    let holes = checked.holes();
     sheet.clear();
-    Filling::new(template, holes)
+    Filling::new(&checked)
 }
 
-// Starts a filling likewise with a table of its own, which borrows the values, in place of a sheet. The checked template is left
-// with the caller, who may merge another record into it.
-pub fn open_borrowed<'t, 'v>(checked: &Checked<'t>) -> (Filling<'t>, BorrowedTable<'v>)
-    ensures template { result.0.template.now ≡ checked.now.template.now }
-    ensures state { borrowed_state result.0 result.1 ≡ opened checked.now.holes }
+// Does likewise with a table that borrows the values, in place of a sheet. The checked template is left with the caller, who may
+// fill it once more.
+pub fn open_borrowed<'t>(checked: &Checked<'t>, table: &mut BorrowedTable<'_>) -> Filling<'t>
+    ensures template { result.template.now ≡ checked.now.template.now }
+    ensures state { borrowed_state result table.new ≡ opened checked.now.holes }
 {
-    let filling = Filling::new(checked.template(), checked.holes());
-    (filling, BorrowedTable::new())
+    table.clear();
+    Filling::new(checked)
 }

@@ -16,25 +16,25 @@ use fault::flaw::MAX_TEMPLATE;
 use fault::{Fault, Flaw};
 use host::Host;
 use template::item::{Hole, Item};
-use template::items::{Items, Placed};
+use template::items::Placed;
 use template::survey::Survey;
 
 // Writes as much of the text of a template as the output has places for, and answers the length of all of it.
 #[tactic(auto, using(crate::proofs::Writing::setting_out))]
 fn set_out_text<H: Host>(
-    template: &[u8],
+    filled: &Finished<'_>,
     host: &H,
     survey: &Survey,
     values: &BorrowedTable<'_>,
     out: &mut [u8],
 ) -> Result<usize, Fault>
-    requires { length template.now ≤ 3584 }
-    ensures { after (λ n. (n, out.new)) (told result) ≡ onward 0 out.old (sets_out (H.meaning host.now) (slice_index (bytes_of survey.now.contexts)) (value_at (rows_in values.now.rows)) (lexed_from template.now 0) 0) }
+    requires { length filled.now.template.now ≤ 3584 }
+    ensures { after (λ n. (n, out.new)) (told result) ≡ onward 0 out.old (sets_out (H.meaning host.now) (slice_index (bytes_of survey.now.contexts)) (value_at (rows_in values.now.rows)) (lexed_from filled.now.template.now 0) 0) }
 {
     // Only holes are counted, so `enumerate` does not serve.
     let mut holes = 0;
     let mut page = Page::default();
-    let mut items = Items::of(template);
+    let mut items = filled.items();
     // Before each item that is read by itself stands a run of literals, so no `for` serves.
     loop {
         page.put_run(items.plain(), out);
@@ -74,10 +74,10 @@ impl Finished<'_> {
             return Err(Fault::Template(Flaw::TooLong));
         }
         // The first walk writes nothing.
-        let needed = set_out_text(self.template, host, survey, values, &mut [])?;
+        let needed = set_out_text(self, host, survey, values, &mut [])?;
         if needed > out.len() {
             return Err(Fault::OutputTooShort { needed });
         }
-        set_out_text(self.template, host, survey, values, out)
+        set_out_text(self, host, survey, values, out)
     }
 }

@@ -1,8 +1,10 @@
 // The items of a template, one after the other.
 ghost use Rattle.std.specs.Prelude.{◌≡◌, ◌+◌, ◌≤◌, false, length, take, drop};
 ghost use Rattle.std.specs.List.{prefix_len};
+ghost use Rattle.template.specs.Ends.{places_of};
 ghost use Rattle.template.specs.Lexing.{is_plain, lexed_from, literals, ends_in};
 
+use crate::ends::Ends;
 use crate::item::Item;
 
 // An item, and the place where it begins.
@@ -74,15 +76,15 @@ impl<'t> Items<'t> {
     }
 
     // The items of a template of which it is known where its holes end.
-    pub(crate) fn known(template: &'t [u8], ends: &'t [u16]) -> Items<'t>
-        requires { take (length ends.now) (ends_in (lexed_from template.now 0)) ≡ ends.now }
+    pub fn known(template: &'t [u8], ends: &'t Ends) -> Items<'t>
+        requires { places_of ends.now ≡ ends_in (lexed_from template.now 0) }
         ensures template { result.template.now ≡ template.now }
         ensures at { result.at ≡ 0 }
     {
         Items {
             template,
             at: 0,
-            ends,
+            ends: ends.places(),
         }
     }
 

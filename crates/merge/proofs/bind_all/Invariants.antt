@@ -13,12 +13,12 @@ invariant-loop-read g l =
     let end = l.source.found.now.end in
     let t = l.items.template.now in
     record {
-      same_template : t ≡ l.template;
+      same_template : t ≡ l.checked.template.now;
       within : l.items.at ≤ length t;
       few : l.hole ≤ l.items.at;
       kept : l.filling.template ≡ l.initial.filling.template;
-      same : bind_pieces m d ps end (borrowed_state l.initial.filling l.initial.table) 0 (lexed_from l.template 0) ≡ bind_pieces m d ps end (borrowed_state l.filling l.table) l.hole (lexed_from t l.items.at);
+      same : bind_pieces m d ps end (borrowed_state l.initial.filling l.initial.table) 0 (lexed_from l.checked.template.now 0) ≡ bind_pieces m d ps end (borrowed_state l.filling l.table) l.hole (lexed_from t l.items.at);
     }
 
 abbrev pub decreases-loop-read : goal.decreases-loop-read
-decreases-loop-read g l = length l.template - l.items.at
+decreases-loop-read g l = length l.checked.template.now - l.items.at

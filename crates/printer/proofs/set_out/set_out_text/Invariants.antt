@@ -13,12 +13,12 @@ invariant-loop-read g l =
     let v = value_at (rows_in l.values.rows) in
     let t = l.items.template.now in
     record {
-      same_template : t ≡ l.template;
+      same_template : t ≡ l.filled.template.now;
       within : l.items.at ≤ length t;
       few : l.holes ≤ l.items.at;
       near : l.page.end ≤ 968 * l.items.at;
-      same : onward l.page.end l.out (sets_out m cs v (lexed_from t l.items.at) l.holes) ≡ onward 0 l.initial.out (sets_out m cs v (lexed_from l.template 0) 0);
+      same : onward l.page.end l.out (sets_out m cs v (lexed_from t l.items.at) l.holes) ≡ onward 0 l.initial.out (sets_out m cs v (lexed_from l.filled.template.now 0) 0);
     }
 
 abbrev pub decreases-loop-read : goal.decreases-loop-read
-decreases-loop-read g l = length l.template - l.items.at
+decreases-loop-read g l = length l.filled.template.now - l.items.at

@@ -1,0 +1,10 @@
+use Rattle.std.proofs.Common.{◌≡◌, ◌-◌, ◌≤◌, true, length, drop}
+use Rattle.printer.specs.Borrowed.{rows_in}
+use Rattle.printer.specs.Rows.{fit, blank}
+use Rattle.printer.proofs.borrowed.BorrowedTable.clear.Given as goal
+
+abbrev pub invariant-loop-self : goal.invariant-loop-self
+invariant-loop-self l = l.self.used ≤ 64
+
+abbrev pub decreases-loop-self : goal.decreases-loop-self
+decreases-loop-self l = l.self.used
