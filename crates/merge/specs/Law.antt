@@ -1,5 +1,6 @@
 -- What a merged text reads as.
 use Rattle.std.specs.Prelude.{◌≡◌, ℕ, zero, suc, ◌+◌, List, [], ◌∷◌, length, Some, None, Ok, Err, All, Option, Result, ◌≢◌}
+use Rattle.std.specs.List.{flat_map}
 use Rattle.host.specs.Meaning.{Meaning}
 use Rattle.fault.specs.declared.fault.Fault.{Fault}
 use Rattle.template.specs.Items.{names}
@@ -8,6 +9,7 @@ use Rattle.record.specs.Format.{Pair, packed, Good, Stands}
 use Rattle.printer.specs.Printing.{ReadsBack}
 use Rattle.printer.specs.Slate.{value_or_none}
 use Rattle.merge.specs.declared.merged.Merged.{Merged}
+use Rattle.merge.specs.declared.merged.Merges.{Merges}
 
 -- The value of hole k: the record's value of the hole's name. The names are those of the holes in order.
 abbrev pub named_value : List Pair → List (List ℕ) → ℕ → List ℕ
@@ -30,3 +32,16 @@ abbrev pub WhereMerged : Result (Option Merged) Fault → (Merged → Type 0) �
 WhereMerged (Ok (Some x)) P = P x
 WhereMerged (Ok None) P = Unit {0}
 WhereMerged (Err f) P = Unit {0}
+
+-- Texts one after another, from a place of the input to a place after their records: each reads as the record that stands where the one before
+-- it ended.
+abbrev pub ReadInARow : Meaning → List ℕ → List ℕ → ℕ → ℕ → List (List ℕ) → Type 0
+ReadInARow m t input place next [] = place ≡ next
+ReadInARow m t input place next (w ∷ ws) = (n : ℕ) × ReadsAsRecord m t input place n w × ReadInARow m t input n next ws
+
+-- What several merges have written: as many texts as are told, in a row from the place that was asked for to the one that is told.
+pub record ReadsAsRecords (m : Meaning) (t input : List ℕ) (place : ℕ) (s : Merges) (w : List ℕ) : Type 0 where
+  pub texts : List (List ℕ)
+  pub as_many : length texts ≡ s.count
+  pub whole : flat_map (λ v. v) texts ≡ w
+  pub in_a_row : ReadInARow m t input place s.next texts

@@ -12,19 +12,20 @@ ghost use Rattle.merge.specs.Law.{ReadsAsRecord, WhereMerged};
 ghost use Rattle.merge.specs.Merging.{with_pairs, merged};
 
 pub mod many;
+mod memory;
 pub mod merged;
 mod prepared;
 mod source;
 
 use fault::Fault;
 use host::Host;
+use memory::Memory;
 use merged::Merged;
 use prepared::Prepared;
 use printer::borrowed::BorrowedTable;
 use printer::filling::Filling;
 use printer::open::open_borrowed;
 use printer::sheet::Sheet;
-use record::Reader;
 use record::shape::State;
 use source::Source;
 use template::check::check_and_survey;
@@ -100,8 +101,7 @@ fn fill_in<'v, H: Host>(
 #[tactic(auto, using(crate::proofs::Steps::comes_found, crate::proofs::Steps::comes_none, crate::proofs::Steps::comes_refused, crate::proofs::Steps::weighed_some, crate::proofs::Steps::written_some))]
 pub(crate) fn merge_prepared<'v, H: Host>(
     prepared: &Prepared<'_, '_, H>,
-    reader: &mut Reader,
-    table: &mut BorrowedTable<'v>,
+    memory: &mut Memory<'v>,
     input: &'v [u8],
     place: usize,
     out: &mut [u8],
@@ -109,6 +109,7 @@ pub(crate) fn merge_prepared<'v, H: Host>(
     ensures answer { merged_of result ≡ weighed (merged (H.meaning prepared.now.host.now) prepared.now.checked.template.now input.now place (length out.old)) }
     ensures text { out.new ≡ written out.old (merged (H.meaning prepared.now.host.now) prepared.now.checked.template.now input.now place (length out.old)) }
 {
+    let Memory { reader, table } = memory;
     reader.read(input, place);
     let found = reader.found();
     match found.state {
@@ -140,8 +141,7 @@ pub fn merge_under<H: Host>(
         survey,
         host,
     };
-    let (mut reader, mut table) = (Reader::new(), BorrowedTable::new());
-    merge_prepared(&prepared, &mut reader, &mut table, input, place, out)
+    merge_prepared(&prepared, &mut Memory::new(), input, place, out)
 }
 
 // Merges likewise under the host of a sheet, and clears the sheet at the end in any case.

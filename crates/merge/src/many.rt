@@ -1,24 +1,23 @@
 // Merging records one after another into one template.
 ghost use Rattle.std.specs.Prelude.{◌≡◌, ◌+◌, ◌-◌, ◌≤◌, ◌++◌, length, take, drop, None};
 ghost use Rattle.merge.specs.Answers.{merged_of, weighed, written};
+ghost use Rattle.merge.specs.Law.{ReadsAsRecords};
 ghost use Rattle.merge.specs.Many.{merged_on, merged_many, many_told, many_weighed, many_written};
 ghost use Rattle.merge.specs.Merging.{merged};
 
+use crate::memory::Memory;
 use crate::merge_prepared;
 use crate::merged::{Merged, Merges};
 use crate::prepared::Prepared;
 use fault::Fault;
 use host::Host;
-use printer::borrowed::BorrowedTable;
-use record::Reader;
 use template::check::check_and_survey;
 use template::raw::Raw;
 
 // Merges the record at a place of the input, and writes its text into the output behind what is written there.
 fn merge_behind<'v, H: Host>(
     prepared: &Prepared<'_, '_, H>,
-    reader: &mut Reader,
-    table: &mut BorrowedTable<'v>,
+    memory: &mut Memory<'v>,
     input: &'v [u8],
     place: usize,
     behind: usize,
@@ -28,7 +27,7 @@ fn merge_behind<'v, H: Host>(
     ensures answer { merged_of result ≡ weighed (merged (H.meaning prepared.now.host.now) prepared.now.checked.template.now input.now place (length out.old - behind)) }
     ensures text { out.new ≡ take behind out.old ++ written (drop behind out.old) (merged (H.meaning prepared.now.host.now) prepared.now.checked.template.now input.now place (length out.old - behind)) }
 {
-    merge_prepared(prepared, reader, table, input, place, &mut out[behind..])
+    merge_prepared(prepared, memory, input, place, &mut out[behind..])
 }
 
 // Merges at most `most` records from a place on, with a template that the host has accepted.
@@ -48,9 +47,9 @@ fn merge_on<H: Host>(
         len: 0,
         refusal: None,
     };
-    let (mut reader, mut table) = (Reader::new(), BorrowedTable::new());
+    let mut memory = Memory::new();
     while done.count < most {
-        match merge_behind(prepared, &mut reader, &mut table, input, done.next, done.len, out) {
+        match merge_behind(prepared, &mut memory, input, done.next, done.len, out) {
             Ok(Some(Merged { next, len })) => {
                 done.count += 1;
                 done.next = next;
@@ -78,6 +77,7 @@ pub fn merge_many<H: Host>(
 ) -> Merges
     ensures answer { many_told result ≡ many_weighed (merged_many (H.meaning host.now) template.entry.template.now input.now place most (length out.old)) }
     ensures text { out.new ≡ many_written out.old (merged_many (H.meaning host.now) template.entry.template.now input.now place most (length out.old)) }
+    ensures law { ReadsAsRecords (H.meaning host.now) template.entry.template.now input.now place result (take result.len out.new) }
 {
     match check_and_survey(template, host) {
         Ok((checked, survey)) => {

@@ -48,7 +48,7 @@ impl<'t> Filling<'t> {
         Filling {
             template: checked.template(),
             holes,
-            ends: *checked.ends(),
+            ends: checked.ends(),
             owed: all(holes),
         }
     }

@@ -31,6 +31,7 @@ impl<'t> Finished<'t> {
     pub(crate) fn items(&self) -> Items<'_>
         ensures template { result.template.now ≡ self.now.template.now }
         ensures at { result.at ≡ 0 }
+        ensures ends { result.ends.now ≡ places_of self.now.ends }
     {
         Items::known(self.template, &self.ends)
     }

@@ -60,6 +60,7 @@ impl Page {
     }
 
     // Adds the value of a hole as its body spells it.
+    #[inline(always)]
     #[tactic(auto, using(crate::proofs::Writing::onward_byte, crate::proofs::Writing::onward_all))]
     pub fn put_value<H: Host>(
         &mut self,
@@ -85,6 +86,7 @@ impl Page {
     }
 
     // Adds a hole with its value: its opener, the value as its body spells it, and its closer.
+    #[inline(always)]
     pub fn put_hole<H: Host>(
         &mut self,
         host: &H,

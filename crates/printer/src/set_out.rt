@@ -20,6 +20,8 @@ use template::items::Placed;
 use template::survey::Survey;
 
 // Writes as much of the text of a template as the output has places for, and answers the length of all of it.
+// Each walk has a copy of it, so that the one that only measures is spared the writing.
+#[inline(always)]
 #[tactic(auto, using(crate::proofs::Writing::setting_out))]
 fn set_out_text<H: Host>(
     filled: &Finished<'_>,

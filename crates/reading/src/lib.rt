@@ -18,6 +18,7 @@ const MOST: usize = 65534;
 
 // Writes as much of the fields as the output has places for, and answers the length of all of them, or the place that
 // the host refuses.
+#[inline(always)]
 fn walk<H: Host>(host: &H, text: &[u8], out: &mut [u8]) -> Result<usize, Fault>
     requires { length text.now ≤ 65534 }
     ensures result { result ≡ measured (H.meaning host.now) text.now 0 origin 0 }

@@ -2,7 +2,7 @@
 #![tactic(auto)]
 
 ghost use Rattle.std.specs.Prelude.{◌≡◌, ◌<◌, ◌≤◌, true, false, length, IfOk};
-ghost use Rattle.record.specs.Answers.{answer, answer_pairs, answer_read, Bare, BlankAfter, Laid, PairsLie, Within};
+ghost use Rattle.record.specs.Answers.{answer, answer_pairs, answer_read, Bare, BlankAfter, unread, Laid, PairsLie, Within};
 ghost use Rattle.record.specs.Law.{Law};
 ghost use Rattle.record.specs.Reading.{read_at};
 
@@ -123,9 +123,7 @@ pub struct Reader {
 impl Reader {
     // A reader that has read nothing.
     pub fn new() -> Reader
-        ensures count { result.found.count ≡ 0 }
-        ensures end { result.found.end ≡ 0 }
-        ensures next { result.found.next ≡ 0 }
+        ensures { result.found ≡ unread }
     {
         let found = shape::Record {
             state: State::End,

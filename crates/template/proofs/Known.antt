@@ -3,7 +3,7 @@ use Rattle.std.proofs.Common.{◌≡◌, ℕ, suc, ◌+◌, ◌-◌, ◌<◌, �
 use Rattle.std.specs.List.{between}
 use Rattle.std.proofs.lemmas.List.{drop-drop, length-drop}
 use Rattle.template.specs.Notation.{goes_on}
-use Rattle.template.specs.Lexing.{Lexed, byte, hole, fault, between_pieces, in_name, lex, lexed_from, literals, ends_in}
+use Rattle.template.specs.Lexing.{Lexed, hole, between_pieces, in_name, lex, lexed_from, literals, ends_in}
 use Rattle.template.proofs.Lexed.{move_on, move_close, move_break}
 use Rattle.template.proofs.Pieces.{step_move}
 

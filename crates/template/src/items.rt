@@ -1,5 +1,5 @@
 // The items of a template, one after the other.
-ghost use Rattle.std.specs.Prelude.{◌≡◌, ◌+◌, ◌≤◌, false, length, take, drop};
+ghost use Rattle.std.specs.Prelude.{◌≡◌, ◌+◌, ◌≤◌, false, [], length, take, drop};
 ghost use Rattle.std.specs.List.{prefix_len};
 ghost use Rattle.template.specs.Ends.{places_of};
 ghost use Rattle.template.specs.Lexing.{is_plain, lexed_from, literals, ends_in};
@@ -66,12 +66,12 @@ impl<'t> Items<'t> {
     pub fn of(template: &'t [u8]) -> Items<'t>
         ensures template { result.template.now ≡ template.now }
         ensures at { result.at ≡ 0 }
+        ensures ends { result.ends.now ≡ [] }
     {
-        let ends = &[];
         Items {
             template,
             at: 0,
-            ends,
+            ends: &[],
         }
     }
 
@@ -80,12 +80,11 @@ impl<'t> Items<'t> {
         requires { places_of ends.now ≡ ends_in (lexed_from template.now 0) }
         ensures template { result.template.now ≡ template.now }
         ensures at { result.at ≡ 0 }
+        ensures ends { result.ends.now ≡ places_of ends.now }
     {
-        Items {
-            template,
-            at: 0,
-            ends: ends.places(),
-        }
+        let mut items = Items::of(template);
+        items.ends = ends.places();
+        items
     }
 
     // The literals up to the next at-sign or the end, each a byte that stands for itself.

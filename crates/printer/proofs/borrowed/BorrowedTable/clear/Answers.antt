@@ -1,4 +1,4 @@
-use Rattle.std.proofs.Common.{◌<◌, ◌-◌, length, rules, ap, ◌∙◌, length-set, Some, arith}
+use Rattle.std.proofs.Common.{◌<◌, ◌-◌, rules, ap, ◌∙◌, length-set, Some, arith}
 use Rattle.printer.specs.Borrowed.{rows_in}
 use Rattle.printer.specs.Rows.{row_of, fit}
 use Rattle.printer.proofs.Laid.{fit_set, value_fits}

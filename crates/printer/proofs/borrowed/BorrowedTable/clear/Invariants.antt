@@ -1,6 +1,4 @@
-use Rattle.std.proofs.Common.{◌≡◌, ◌-◌, ◌≤◌, true, length, drop}
-use Rattle.printer.specs.Borrowed.{rows_in}
-use Rattle.printer.specs.Rows.{fit, blank}
+use Rattle.std.proofs.Common.{◌≤◌}
 use Rattle.printer.proofs.borrowed.BorrowedTable.clear.Given as goal
 
 abbrev pub invariant-loop-self : goal.invariant-loop-self
