@@ -1,9 +1,8 @@
 -- The texts of several merges read as their records.
 use Rattle.std.proofs.Common.{◌≡◌, ℕ, zero, suc, ◌-◌, List, [], ◌∷◌, ◌++◌, length, take, drop, Some, None, Ok, Err, Option, Result, sym, refl, ap, ◌∙◌, subst, arith}
-use Rattle.std.specs.List.{flat_map}
 use lib.Seq.{take-append_seam}
 use Rattle.host.specs.Meaning.{Meaning, Sound}
-use Rattle.fault.specs.Refusal.{Refusal}
+use Rattle.fault.specs.Refusal.{Refusal, of_template}
 use Rattle.record.proofs.Laws.{reading_undoes_writing}
 use Rattle.template.specs.Judging.{Verdict, refused, accepted, verdict}
 use Rattle.merge.specs.declared.merged.Merges.{Merges}
@@ -13,11 +12,8 @@ use Rattle.merge.specs.Merging.{merged}
 use Rattle.merge.proofs.Laws.{read_as}
 
 -- the same of what several merges come to
-record Rows (m : Meaning) (t input : List ℕ) (place : ℕ) (ms : Many) : Type 0 where
-  texts : List (List ℕ)
-  as_many : length texts ≡ ms.count
-  whole : flat_map (λ v. v) texts ≡ ms.text
-  in_a_row : ReadInARow m t input place ms.next texts
+abbrev Rows : Meaning → List ℕ → List ℕ → ℕ → Many → Type 0
+Rows m t input place ms = ReadsAsRecords m t input place ms.next ms.count ms.text
 
 module _ (m : Meaning) (sound : Sound m) (t input : List ℕ) where
   no_rows : (place : ℕ) (r : Option Refusal) → Rows m t input place (none_more place r)
@@ -41,10 +37,10 @@ module _ (m : Meaning) (sound : Sound m) (t input : List ℕ) where
   rows (suc most) place room = row_more place room (λ next len. merged_on m t input most next (room - len)) (λ next len. rows most next (room - len)) (merged m t input place room) refl
 
   all_rows : (d : Verdict) (most place room : ℕ) → Rows m t input place (merged_by_verdict d m t input most place room)
-  all_rows (refused r) most place room = no_rows place _
+  all_rows (refused r) most place room = no_rows place (Some (of_template r))
   all_rows (accepted n bodies) most place room = rows most place room
 
-  pub many_read : (place most : ℕ) (old new : List ℕ) (s : Merges) → many_told s ≡ many_weighed (merged_many m t input place most (length old)) → new ≡ many_written old (merged_many m t input place most (length old)) → ReadsAsRecords m t input place s (take s.len new)
+  pub many_read : (place most : ℕ) (old new : List ℕ) (s : Merges) → many_told s ≡ many_weighed (merged_many m t input place most (length old)) → new ≡ many_written old (merged_many m t input place most (length old)) → ReadsAsRecords m t input place s.next s.count (take s.len new)
   many_read place most old new s said is =
       let ms = merged_many m t input place most (length old) in
       let r = all_rows (verdict m t) most place (length old) in

@@ -9,7 +9,6 @@ use Rattle.record.specs.Format.{Pair, packed, Good, Stands}
 use Rattle.printer.specs.Printing.{ReadsBack}
 use Rattle.printer.specs.Slate.{value_or_none}
 use Rattle.merge.specs.declared.merged.Merged.{Merged}
-use Rattle.merge.specs.declared.merged.Merges.{Merges}
 
 -- The value of hole k: the record's value of the hole's name. The names are those of the holes in order.
 abbrev pub named_value : List Pair → List (List ℕ) → ℕ → List ℕ
@@ -39,9 +38,9 @@ abbrev pub ReadInARow : Meaning → List ℕ → List ℕ → ℕ → ℕ → Li
 ReadInARow m t input place next [] = place ≡ next
 ReadInARow m t input place next (w ∷ ws) = (n : ℕ) × ReadsAsRecord m t input place n w × ReadInARow m t input n next ws
 
--- What several merges have written: as many texts as are told, in a row from the place that was asked for to the one that is told.
-pub record ReadsAsRecords (m : Meaning) (t input : List ℕ) (place : ℕ) (s : Merges) (w : List ℕ) : Type 0 where
+-- What several merges have written: so many texts, in a row from one place to the other.
+pub record ReadsAsRecords (m : Meaning) (t input : List ℕ) (place next count : ℕ) (w : List ℕ) : Type 0 where
   pub texts : List (List ℕ)
-  pub as_many : length texts ≡ s.count
+  pub as_many : length texts ≡ count
   pub whole : flat_map (λ v. v) texts ≡ w
-  pub in_a_row : ReadInARow m t input place s.next texts
+  pub in_a_row : ReadInARow m t input place next texts

@@ -77,7 +77,7 @@ pub fn merge_many<H: Host>(
 ) -> Merges
     ensures answer { many_told result ≡ many_weighed (merged_many (H.meaning host.now) template.entry.template.now input.now place most (length out.old)) }
     ensures text { out.new ≡ many_written out.old (merged_many (H.meaning host.now) template.entry.template.now input.now place most (length out.old)) }
-    ensures law { ReadsAsRecords (H.meaning host.now) template.entry.template.now input.now place result (take result.len out.new) }
+    ensures law { ReadsAsRecords (H.meaning host.now) template.entry.template.now input.now place result.next result.count (take result.len out.new) }
 {
     match check_and_survey(template, host) {
         Ok((checked, survey)) => {

@@ -1,4 +1,9 @@
 // What merging uses again for record after record.
+ghost use Rattle.std.specs.Prelude.{◌≡◌};
+ghost use Rattle.printer.specs.Borrowed.{rows_in};
+ghost use Rattle.printer.specs.Rows.{blank};
+ghost use Rattle.record.specs.Answers.{unread};
+
 use printer::borrowed::BorrowedTable;
 use record::Reader;
 
@@ -10,7 +15,11 @@ pub struct Memory<'v> {
 }
 
 impl<'v> Memory<'v> {
-    pub fn new() -> Memory<'v> {
+    // Of no record yet.
+    pub fn new() -> Memory<'v>
+        ensures reader { result.reader.found ≡ unread }
+        ensures table { rows_in result.table.rows ≡ blank 64 }
+    {
         Memory {
             reader: Reader::new(),
             table: BorrowedTable::new(),

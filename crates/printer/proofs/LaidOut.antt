@@ -1,11 +1,12 @@
 -- A table of borrowed values stands for the rows into which they would be copied.
-use Rattle.std.proofs.Common.{◌≡◌, ℕ, zero, suc, ◌+◌, ◌-◌, ◌<◌, ◌≤◌, List, [], ◌∷◌, length, get_or, drop, set, replicate, Some, sym, refl, ap, ◌∙◌, arith}
+use Rattle.std.proofs.Common.{◌≡◌, ℕ, zero, suc, ◌+◌, ◌-◌, ◌<◌, ◌≤◌, List, [], ◌∷◌, length, get_or, drop, set, replicate, Some, None, sym, refl, ap, ◌∙◌, arith}
 use lib.Seq.{map-set, take-append_seam}
-use Rattle.std.proofs.lemmas.List.{drop-drop, drop-map, drop-set, drop-set-lt}
+use Rattle.std.proofs.lemmas.List.{drop-drop, drop-map, drop-replicate, drop-set, drop-set-lt}
 use Rattle.printer.specs.declared.borrowed.BorrowedRow.{BorrowedRow}
 use Rattle.printer.specs.declared.row.Row.{Row}
 use Rattle.printer.specs.Borrowed.{rows_in}
 use Rattle.printer.specs.Rows.{zeros, row_of, blank, value_in, value_at}
+use Rattle.printer.proofs.Laid.{blank_is}
 
 -- rows that hold nothing
 pub none_held : (n : ℕ) (r : BorrowedRow) → r.value.now ≡ [] → rows_in (replicate n r) ≡ blank n
@@ -26,10 +27,7 @@ found_at (x ∷ rs) zero r h e = held x.value.now ∙ ap (λ (y : BorrowedRow). 
 found_at (x ∷ rs) (suc k) r h e = found_at rs k r (omega arith) e
 
 blank_fewer : (n m : ℕ) → drop n (blank m) ≡ blank (m - n)
-unfolding blank
-blank_fewer zero m = let same : m ≡ m - 0 = omega arith in ap blank same
-blank_fewer (suc n) zero = let same : 0 ≡ 0 - suc n = omega arith in ap blank same
-blank_fewer (suc n) (suc m) = let same : m - n ≡ suc m - suc n = omega arith in blank_fewer n m ∙ ap blank same
+blank_fewer n m = ap (drop n) (sym (blank_is m (row_of None) refl)) ∙ drop-replicate n m (row_of None) ∙ blank_is (m - n) (row_of None) refl
 
 blank_more : (n : ℕ) → row_of (Some []) ∷ blank n ≡ blank (suc n)
 unfolding blank
