@@ -1,5 +1,5 @@
-// A table for the time of one filling, which borrows: in place of a row with a copy of a value it has the value's bytes where
-// they lie.
+// A table that borrows, for filling after filling: in place of a row with a copy of a value it has the value's bytes where they
+// lie.
 ghost use Rattle.std.specs.Prelude.{◌≡◌, ◌-◌, ◌<◌, ◌≤◌, true, [], length, drop, Some, slice_set};
 ghost use Rattle.printer.specs.Borrowed.{rows_in};
 ghost use Rattle.printer.specs.Rows.{fit, row_of, blank, value_at};
