@@ -1,9 +1,7 @@
 -- How the items of a template go on.
-use Rattle.std.specs.Prelude.{◌≡◌, ℕ, ◌<◌, ◌≤◌, List, length, drop, Some, None, Ok, Err, Option, Result}
+use Rattle.std.specs.Prelude.{◌≡◌, ℕ, ◌<◌, ◌≤◌, List, length, Some, None, Ok, Err, Option, Result}
 use Rattle.fault.specs.declared.flaw.Flaw.{Flaw}
 use Rattle.fault.specs.Refusal.{flaw_of}
-use Rattle.template.specs.declared.item.Item.{Item}
-use Rattle.template.specs.declared.item.Item.TheVariants.{Literal, Hole}
 use Rattle.template.specs.declared.items.Items.{Items}
 use Rattle.template.specs.declared.items.Placed.{Placed}
 use Rattle.template.specs.Lexing.{Lexed, end, fault, EndsAt, then, lexed_from}
@@ -19,18 +17,7 @@ GoesOn len p None q = (len ≤ p) × (q ≡ p)
 GoesOn len p (Some (Ok x)) q = (x.place ≡ p) × (p < q) × (q ≤ len) × EndsAt x.item q
 GoesOn len p (Some (Err f)) q = (p < len) × (q ≡ len)
 
-abbrev pub past : Item → List ℕ → List ℕ
-past (Literal b) es = es
-past (Hole h) es = drop 1 es
-
--- the ends that are known after it: that of a hole is passed over with the hole
-abbrev pub ends_after : Option (Result Placed Flaw) → List ℕ → List ℕ
-ends_after None es = es
-ends_after (Some (Ok x)) es = past x.item es
-ends_after (Some (Err f)) es = es
-
 pub record Reads (s : Items) (r : Option (Result Placed Flaw)) (t : Items) : Type 0 where
   pub same : t.template.now ≡ s.template.now
   pub reads : read_next s.template.now s.at r t.at ≡ lexed_from s.template.now s.at
   pub onward : GoesOn (length s.template.now) s.at r t.at
-  pub ends : t.ends.now ≡ ends_after r s.ends.now

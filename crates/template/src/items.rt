@@ -92,7 +92,6 @@ impl<'t> Items<'t> {
     pub fn plain(&mut self) -> &'t [u8]
         ensures template { self.new.template ≡ self.old.template }
         ensures at { self.new.at ≡ self.old.at + length result.now }
-        ensures ends { self.new.ends ≡ self.old.ends }
         ensures whole { length result.now ≡ prefix_len is_plain (drop self.old.at self.old.template.now) }
         ensures reads { lexed_from self.old.template.now self.old.at ≡ literals self.old.at result.now (lexed_from self.old.template.now self.new.at) }
         ensures within { self.old.at ≤ length self.old.template.now → self.new.at ≤ length self.old.template.now }
