@@ -23,7 +23,8 @@ pub fn read_whole<'a>(rt: &HostRuntime, path: &'a str) -> Result<Vec<u8>, Stop<'
     read(rt, path).map_err(Stop::Unreadable)
 }
 
-// Two whole files, of which one may be standard input.
+// Two whole files, of which one may be standard input. Why the first cannot be read is told before the second is read, since
+// standard input may be long in coming.
 pub fn read_both<'a>(
     rt: &HostRuntime,
     first: &'a str,
@@ -32,10 +33,14 @@ pub fn read_both<'a>(
     if first == "-" && second == "-" {
         return Err(Stop::InputTwice);
     }
-    match (read(rt, first), read(rt, second)) {
+    let first = read(rt, first);
+    if let Err(file) = &first {
+        eprintln!(rt; "{file}")?;
+    }
+    match (first, read(rt, second)) {
         (Ok(first), Ok(second)) => Ok((first, second)),
-        (Err(first), Err(second)) => Err(Stop::BothUnreadable(first, second)),
-        (Err(file), Ok(_)) | (Ok(_), Err(file)) => Err(Stop::Unreadable(file)),
+        (Err(_), Ok(_)) => Err(Stop::Told),
+        (_, Err(file)) => Err(Stop::Unreadable(file)),
     }
 }
 

@@ -83,6 +83,8 @@ fn main(rt: HostRuntime) -> ExitCode {
 }
 
 fn tell(rt: &HostRuntime, stop: &Stop<'_>) -> ExitCode {
-    let _ = eprintln!(rt; "{stop}");
+    if !matches!(stop, Stop::Told) {
+        let _ = eprintln!(rt; "{stop}");
+    }
     ExitCode::FAILURE
 }

@@ -12,7 +12,8 @@ pub enum Stop<'a> {
     // The command line gives no job.
     Usage,
     Unreadable(Unreadable<'a>),
-    BothUnreadable(Unreadable<'a>, Unreadable<'a>),
+    // The reason was told when it was met.
+    Told,
     // Two files are to be standard input.
     InputTwice,
     // What is no text.
@@ -37,7 +38,7 @@ impl fmt::Display for Stop<'_> {
         match self {
             Stop::Usage => f.write_str(USAGE),
             Stop::Unreadable(file) => write!(f, "{file}"),
-            Stop::BothUnreadable(first, second) => write!(f, "{first}\n{second}"),
+            Stop::Told => Ok(()),
             Stop::InputTwice => write!(f, "only one of the files can be standard input"),
             Stop::NoText(name) => write!(f, "{} is no text", Word(name)),
             Stop::BadLine(number, form) => write!(f, "line {number} is no {form}"),
