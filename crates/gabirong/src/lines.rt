@@ -42,19 +42,27 @@ impl<T: Drop> From<AllocFailed<T>> for Unread {
 
 // The bytes that the style `Escaped` shows so: after a backslash come x and two hexadecimal digits.
 pub fn unescaped(heap: Global, text: &str) -> Result<Vec<u8>, Unread> {
-    let mut parts = text.split('\\');
     let mut bytes = Vec::new(heap);
-    if let Some(part) = parts.next() {
-        bytes.extend_from_slice(part.as_bytes())?;
+    let mut rest = text.as_bytes();
+    // Each turn takes an escape, or all up to the next backslash. To split at backslashes takes three times as long where escapes
+    // are many.
+    loop {
+        match rest {
+            [] => return Ok(bytes),
+            [b'\\', b'x', high, low, after @ ..] => {
+                bytes.push(digit(*high)? * 16 + digit(*low)?)?;
+                rest = after;
+            }
+            [b'\\', ..] => return Err(Unread::Malformed),
+            [byte, after @ ..] => {
+                let len = after.iter().take_while(|byte| **byte != b'\\').count();
+                let (run, next) = after.split_at(len.min(after.len()));
+                bytes.push(*byte)?;
+                bytes.extend_from_slice(run)?;
+                rest = next;
+            }
+        }
     }
-    for part in parts {
-        let [b'x', high, low, rest @ ..] = part.as_bytes() else {
-            return Err(Unread::Malformed);
-        };
-        bytes.push(digit(*high)? * 16 + digit(*low)?)?;
-        bytes.extend_from_slice(rest)?;
-    }
-    Ok(bytes)
 }
 
 fn digit(byte: u8) -> Result<u8, Unread>
