@@ -5,7 +5,7 @@ ghost use Rattle.template.specs.Walk.{Reads};
 
 use crate::item::Item;
 use crate::items::{Items, Placed};
-use crate::lexer::item_at;
+use crate::lexer::known_item_at;
 use fault::Flaw;
 
 // A fault of notation is the last that comes.
@@ -20,7 +20,7 @@ impl<'t> Iterator for Items<'t> {
     fn next(&mut self) -> Option<Result<Placed<'t>, Flaw>> {
         let place = self.at;
         let known = self.ends.first().copied().map(usize::from);
-        match item_at(self.template, place, known) {
+        match known_item_at(self.template, place, known) {
             Ok(Some((item, next))) => {
                 self.at = next;
                 if let Item::Hole(_) = item {
