@@ -23,8 +23,8 @@ pub fn read_whole<'a>(rt: &HostRuntime, path: &'a str) -> Result<Vec<u8>, Stop<'
     read(rt, path).map_err(Stop::Unreadable)
 }
 
-// Two whole files, of which one may be standard input. Why the first cannot be read is told before the second is read, since
-// standard input may be long in coming.
+// Two whole files, of which one may be standard input. Why the first cannot be read is told before the second is
+// read, since standard input may be long in coming.
 pub fn read_both<'a>(
     rt: &HostRuntime,
     first: &'a str,

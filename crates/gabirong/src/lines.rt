@@ -44,8 +44,8 @@ impl<T: Drop> From<AllocFailed<T>> for Unread {
 pub fn unescaped(heap: Global, text: &str) -> Result<Vec<u8>, Unread> {
     let mut bytes = Vec::new(heap);
     let mut rest = text.as_bytes();
-    // Each turn takes an escape, or all up to the next backslash. To split at backslashes takes three times as long where escapes
-    // are many.
+    // Each turn takes an escape, or all up to the next backslash. To split at backslashes takes more than twice as long
+    // where escapes are many.
     loop {
         match rest {
             [] => return Ok(bytes),

@@ -97,8 +97,8 @@ fn refusal_of(value: &str) -> Result<Refusal, Unread> {
     Ok(Refusal::Plain(number.parse()?, place.parse()?))
 }
 
-// The bytes that a text stands for: \\, \n, \r, \t and \xHH, whose digits are 0 to 9 and a to f, are one byte each, and a
-// backslash before anything else is bad.
+// The bytes that a text stands for: \\, \n, \r, \t and \xHH, whose digits are 0 to 9 and a to f, are one byte each,
+// and a backslash before anything else is bad.
 fn unescaped(heap: Global, text: &str) -> Result<Vec<u8>, Unread> {
     let mut bytes = Vec::new(heap);
     let mut rest = text.as_bytes();

@@ -60,7 +60,8 @@ impl Vector {
     }
 }
 
-// Adds a row so many times, with no copy of them all beside it. The room is made first, so that want of it is told at once.
+// Adds a row so many times, with no copy of them all beside it. The room is made first, so that want of it is told at
+// once.
 fn repeat(bytes: &mut Vec<u8>, row: &[u8], times: usize) -> Result<(), AllocError> {
     if row.is_empty() {
         return Ok(());
