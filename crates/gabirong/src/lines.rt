@@ -54,6 +54,11 @@ pub fn unescaped(heap: Global, text: &str) -> Result<Vec<u8>, Unread> {
                 rest = after;
             }
             [b'\\', ..] => return Err(Unread::Malformed),
+            // No run follows, as where every other byte is escaped.
+            [byte, b'\\', ..] => {
+                bytes.push(*byte)?;
+                rest = &rest[1..];
+            }
             [byte, after @ ..] => {
                 let len = after.iter().take_while(|byte| **byte != b'\\').count();
                 let (run, next) = after.split_at(len.min(after.len()));
