@@ -60,8 +60,8 @@ class Refused(Exception):
 # ---- The hosts -------------------------------------------------------------------------
 #
 # A step answers the next context and an effect, or None where the host refuses the byte. An
-# effect is a first closing, a middle and a last closing: a closing is a kind or None, and the
-# middle is None, OPEN or the byte to keep. An end that is missing from ENDS is refused. Where a
+# effect says what is closed before and after, each a kind or None, and what is done in between:
+# None, OPEN or the byte to keep. An end that is missing from ENDS is refused. Where a
 # hole may stand, HOLES has its opener, body and closer. A spelling is None where the byte is
 # turned away.
 
